@@ -1,0 +1,7 @@
+pub mod Limits
+pub mod Truth
+pub mod Meaning
+pub mod Verdicts
+pub mod Formulas
+pub mod Kept
+pub mod Laws

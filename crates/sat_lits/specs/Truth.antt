@@ -1,0 +1,11 @@
+-- Clauses over any kind of literal. A truth is a function from literals to their values.
+use Rattle.std.specs.Prelude.{Bool, not, cond, List}
+use Rattle.std.specs.List.{list_any}
+
+-- a negative literal has the opposite of its variable's value
+abbrev pub signed : Bool → Bool → Bool
+signed negative value = cond negative (not value) value
+
+-- a clause is true where one of its literals is, so the empty clause is false
+abbrev pub clause_value : {L : Type 0} → (L → Bool) → List L → Bool
+clause_value truth lits = list_any truth lits

@@ -1,0 +1,17 @@
+//! Literals, clauses, parities, formulas and verdicts in the caller's numbers, and what they mean.
+//!
+//! Every other crate stands on the definitions of this one, in `specs/`.
+#![tactic(auto)]
+
+mod formula;
+mod limits;
+mod list;
+mod literal;
+mod satisfaction;
+mod verdict;
+
+pub use formula::{Formula, FormulaError, Item};
+pub use limits::Limits;
+pub use list::{List, NoMemory};
+pub use literal::{Lit, Var};
+pub use verdict::Verdict;
