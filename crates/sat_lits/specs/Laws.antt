@@ -1,8 +1,8 @@
 -- Facts on literals, items and formulas that every crate above may cite.
-use Rattle.std.proofs.Common.{◌≡◌, ℕ, ◌+◌, ◌≤◌, Bool, true, false, ◌&&◌, cond, List, [], ◌∷◌, ◌++◌, length, None, Some, nat_lt, nat_le, refl, ◌∙◌, arith}
+use Rattle.std.proofs.Common.{◌≡◌, ℕ, ◌+◌, ◌<◌, ◌≤◌, Bool, true, false, ◌&&◌, cond, List, [], ◌∷◌, ◌++◌, length, get_or, None, Some, nat_lt, nat_le, refl, sym, ◌∙◌, arith}
 use Rattle.std.specs.List.{list_all}
 use Rattle.std.proofs.lemmas.Bool.{and_parts, and_from, lt-ltb, ltb-true, leb-false}
-use Rattle.std.proofs.lemmas.List.Folds.{list_all-append}
+use Rattle.std.proofs.lemmas.List.Folds.{list_all-append, list_all_at}
 use Rattle.std.proofs.lemmas.List.Sums.{sum_by-append}
 use Rattle.sat_lits.specs.Limits.{LimitNumbers}
 use Rattle.sat_lits.specs.Meaning.{Problem}
@@ -15,6 +15,14 @@ all_mono p q h [] e = refl
 all_mono p q h (x ∷ xs) e =
     let a : (p x ≡ true) × (list_all p xs ≡ true) = and_parts _ _ e in
     and_from _ _ (h x a.0) (all_mono p q h xs a.1)
+
+-- the element at a place passes
+pub all_at : {X : Type 0} (p : X → Bool) (xs : List X) (i : ℕ) (d : X) → i < length xs → list_all p xs ≡ true → p (get_or xs i d) ≡ true
+all_at p xs i d h e = go (p (get_or xs i d)) refl
+  where
+    go : (v : Bool) → p (get_or xs i d) ≡ v → v ≡ true
+    go true k = refl
+    go false k = sym (list_all_at p xs i d h k) ∙ e
 
 -- one element more passes
 pub all_push : {X : Type 0} (p : X → Bool) (xs : List X) (x : X) → list_all p xs ≡ true → p x ≡ true → list_all p (xs ++ x ∷ []) ≡ true

@@ -217,3 +217,99 @@ fn unknown_var(known: u32, vars: &[Var]) -> Option<u32>
 {
     vars.iter().map(|var| var.0).find(|var| known <= *var)
 }
+
+#[cfg(test)]
+mod tests {
+    use super::*;
+    use std::test::Fail;
+
+    /// The literals of these numbers, as in DIMACS texts.
+    fn clause(alloc: Global, numbers: &[i32]) -> Result<List<Lit>, NoMemory> {
+        let mut lits = List::new(alloc);
+        for number in numbers {
+            lits.push(Lit {
+                var: Var(number.unsigned_abs().saturating_sub(1)),
+                negative: *number < 0,
+            })?;
+        }
+        Ok(lits)
+    }
+
+    #[test]
+    fn a_formula_grows_to_its_limit(rt: HostRuntime) {
+        let mut formula = Formula::new(rt.alloc(), Limits::standard());
+        assert_eq!(rt; formula.grow(16_777_215), Ok(()));
+        assert_eq!(rt; formula.grow(1), Err(FormulaError::TooManyVars));
+        assert_eq!(rt; formula.vars(), 16_777_215);
+    }
+
+    #[test]
+    fn a_refused_clause_is_not_appended(rt: HostRuntime) -> Result<(), Fail> {
+        let limits = Limits::new(2, 3, 1, 100).ok_or("within the standard limits")?;
+        let mut formula = Formula::new(rt.alloc(), limits);
+        formula.grow(2)?;
+        let rows = [
+            ([1, 2, 1, 2].as_slice(), Err(FormulaError::TooManyLits)),
+            ([-4, 3].as_slice(), Err(FormulaError::NoSuchVar { var: 3 })),
+            ([1, -2].as_slice(), Ok(())),
+            ([2, 2].as_slice(), Err(FormulaError::TooManyLits)),
+            ([].as_slice(), Ok(())),
+            ([2].as_slice(), Ok(())),
+        ];
+        for (numbers, answer) in rows {
+            let lits = clause(rt.alloc(), numbers)?;
+            assert_eq!(rt;
+                formula.push_clause(lits.as_slice()),
+                answer,
+                "at {numbers:?}"
+            );
+        }
+        assert_eq!(rt; formula.items().len(), 3);
+        assert_eq!(rt; formula.lits(), 3);
+        assert_eq!(rt;
+            formula.push_parity(&[Var(0)], true),
+            Err(FormulaError::TooManyLits)
+        );
+        assert_eq!(rt;
+            formula.push_parity(&[Var(2)], true),
+            Err(FormulaError::NoSuchVar { var: 2 })
+        );
+        Ok(())
+    }
+
+    #[test]
+    fn clauses_and_parities_are_satisfied_by_their_solutions(rt: HostRuntime) -> Result<(), Fail> {
+        let mut formula = Formula::new(rt.alloc(), Limits::standard());
+        formula.grow(3)?;
+        formula.push_clause(clause(rt.alloc(), &[1, -2])?.as_slice())?;
+        formula.push_parity(&[Var(0), Var(1), Var(0), Var(2)], true)?;
+        let rows = [
+            ([false, false, false], false),
+            ([false, false, true], true),
+            ([false, true, false], false),
+            ([true, true, false], true),
+            ([true, true, true], false),
+            ([true, false, true], true),
+        ];
+        for (values, is_model) in rows {
+            assert_eq!(rt; formula.satisfied_by(&values), is_model, "at {values:?}");
+        }
+        formula.push_clause(&[])?;
+        assert!(rt; !formula.satisfied_by(&[true, false, true]));
+        Ok(())
+    }
+
+    #[test]
+    fn errors_are_told_by_name(rt: HostRuntime) -> Result<(), Fail> {
+        let rows = [
+            (FormulaError::NoSuchVar { var: 7 }, "NoSuchVar 7"),
+            (FormulaError::TooManyVars, "TooManyVars"),
+            (FormulaError::TooManyLits, "TooManyLits"),
+            (FormulaError::Memory, "Memory"),
+        ];
+        for (error, text) in rows {
+            assert_eq!(rt; error.to_string(rt.alloc())?.as_str(), text);
+        }
+        Ok(())
+    }
+}

@@ -93,3 +93,33 @@ impl Limits {
         self.input
     }
 }
+
+#[cfg(test)]
+mod tests {
+    use super::*;
+
+    #[test]
+    fn limits_are_at_most_the_standard_ones(rt: HostRuntime) {
+        let rows = [
+            ((16_777_215, 33_554_432, 64, 2_147_483_648), true),
+            ((0, 0, 1, 0), true),
+            ((16_777_216, 3, 1, 100), false),
+            ((2, 33_554_433, 1, 100), false),
+            ((2, 3, 0, 100), false),
+            ((2, 3, 65, 100), false),
+            ((2, 3, 1, 2_147_483_649), false),
+        ];
+        for ((vars, lits, threads, input), is_some) in rows {
+            let limits = Limits::new(vars, lits, threads, input);
+            assert_eq!(rt;
+                limits.is_some(),
+                is_some,
+                "at {vars} {lits} {threads} {input}"
+            );
+            if let Some(limits) = limits {
+                assert_eq!(rt; (limits.vars(), limits.lits()), (vars, lits));
+                assert_eq!(rt; (limits.threads(), limits.input()), (threads, input));
+            }
+        }
+    }
+}

@@ -109,3 +109,35 @@ impl<T: Copy> List<T> {
         self.items.clear();
     }
 }
+
+#[cfg(test)]
+mod tests {
+    use super::*;
+    use std::test::Fail;
+
+    #[test]
+    fn a_copy_has_the_same_elements(rt: HostRuntime) -> Result<(), Fail> {
+        let mut list = List::from_slice(rt.alloc(), &[7, 8])?;
+        list.push(9)?;
+        let copy = list.copy()?;
+        for each in [&list, &copy] {
+            assert_eq!(rt; each.as_slice(), [7, 8, 9].as_slice());
+        }
+        Ok(())
+    }
+
+    #[test]
+    fn a_list_grows_and_shrinks(rt: HostRuntime) -> Result<(), Fail> {
+        let mut list = List::new(rt.alloc());
+        list.extend_from_slice(b"shared")?;
+        list.truncate(9);
+        assert_eq!(rt; list.as_slice(), b"shared".as_slice());
+        list.truncate(5);
+        assert_eq!(rt; list.as_slice(), b"share".as_slice());
+        list.clear();
+        assert_eq!(rt; list.as_slice(), b"".as_slice());
+        let other = List::<u8>::new(list.allocator());
+        assert_eq!(rt; other.as_slice(), list.as_slice());
+        Ok(())
+    }
+}
