@@ -1,0 +1,150 @@
+-- What the calls of a reader make of a text.
+use Rattle.std.proofs.Common.{◌≡◌, ℕ, suc, ◌+◌, ◌<◌, ◌≤◌, List, [], ◌∷◌, ◌++◌, length, take, drop, get_or, false, Result, Err, refl, sym, ◌∙◌, ap, subst, append_assoc, arith}
+use Rattle.std.proofs.lemmas.List.{take_all, take-append-drop, take_more}
+use Rattle.std.proofs.Math.Seq.{drop-cons}
+use Rattle.sat_lits.specs.Limits.{LimitNumbers}
+use Rattle.dimacs_text.specs.Grammar.{Ended, Refused, read, reading_of, decided_of}
+use Rattle.dimacs_text.specs.Steps.{Step, Goes, Fails, GoesTo, FailsAs, Does, byte_step, end_step}
+use Rattle.dimacs_text.specs.Reads.{Stands, Counts, HasRead, Gives, Refuses, Ends, rest_at, word_after}
+use Rattle.dimacs_text.specs.declared.token.Word.TheVariants.{Empty}
+use Rattle.dimacs_text.specs.declared.refusal.ReadError.{ReadError}
+use Rattle.dimacs_text.specs.declared.refusal.ReadError.TheVariants.{Refused as IsRefused, Memory}
+use Rattle.dimacs_text.specs.declared.refusal.Refusal.{Refusal}
+use Rattle.dimacs_text.specs.declared.state.State.{State}
+use Rattle.dimacs_text.specs.declared.state.Stage.TheVariants.{Open as IsOpen}
+use Rattle.dimacs_text.specs.declared.command.Command.{Command}
+use Rattle.dimacs_text.proofs.Feed.{Follows, EndsAs, byte-follows, end-follows, stands-open}
+use Rattle.dimacs_text.proofs.Fronts.{stands-front}
+use Rattle.dimacs_text.proofs.Closes.{reading_of-closed}
+use Rattle.dimacs_text.proofs.Bounds.{Keeps, byte-keeps, counts-within, counts-none}
+
+-- the commands so far are those that are decided
+stands-decided : (text : List ℕ) (commands : List Command) (st : State) → Stands text commands st → decided_of st.limits text ≡ commands
+unfolding decided_of
+stands-decided text commands st stands =
+    let l : length text ≤ st.limits.input = omega (arith, stands.taken, stands.fits) in
+    let e : take st.limits.input text ≡ text = take_all st.limits.input text l in
+    ap (λ t. (read false st.limits t).commands) e ∙ ap (λ r. r.commands) (stands-open text commands st stands)
+
+-- what callers know follows from the state
+has_read : (limits : LimitNumbers) (text : List ℕ) (given : List Command) (r : State) → r.limits ≡ limits → r.stage ≡ IsOpen → Stands text given r → Counts given r → HasRead limits text given r
+has_read limits text given r limited is_open stands counts =
+    let P = λ (l : LimitNumbers). HasRead l text given r in
+    subst P limited (record {
+      decides = stands-decided text given r stands;
+      begins = λ rest. stands-front text rest given r stands;
+      closes = λ rest. reading_of-closed r.limits (text ++ rest);
+      fits = omega (arith, stands.taken, stands.fits);
+      within = counts-within given r counts;
+      inside = record { limited = refl; is_open = is_open; stands = stands; counts = counts };
+    })
+
+pub has_read_nothing : (r : State) → r.word ≡ Empty → r.place ≡ 0 → r.in_clause ≡ false → r.lits ≡ [] → r.count ≡ 0 → r.stage ≡ IsOpen → HasRead r.limits [] [] r
+unfolding read rest_at word_after
+has_read_nothing r word place in_clause lits count is_open = has_read r.limits [] [] r refl is_open (record {
+  done = [];
+  held = [];
+  start = 0;
+  is_text = refl;
+  solid = tt;
+  word = word;
+  place = omega arith;
+  taken = place;
+  fits = omega arith;
+  fresh = λ _. lits;
+  rest = λ whole tail. rw (in_clause, count) refl;
+}) (counts-none r lits count)
+
+-- what a byte makes of a reader
+abbrev Reads : LimitNumbers → List ℕ → List Command → Step → Type 0
+Reads limits text given (Goes s cs) = HasRead limits text (given ++ cs) s
+Reads limits text given (Fails why cs) = (rest : List ℕ) → reading_of limits (text ++ rest) ≡ record { commands = given ++ cs; end = Refused why }
+
+byte-reads : (limits : LimitNumbers) (text : List ℕ) (given : List Command) (st : State) (b : ℕ) → HasRead limits text given st → Reads limits (text ++ b ∷ []) given (byte_step st b)
+byte-reads limits text given st b h = go (byte_step st b) (byte-follows text given st b h.inside.stands) (byte-keeps given st b h.inside.counts)
+  where
+    go : (step : Step) → Follows st (text ++ b ∷ []) given step → Keeps given step → Reads limits (text ++ b ∷ []) given step
+    go (Goes s cs) f k = has_read limits (text ++ b ∷ []) (given ++ cs) s (f.1 ∙ h.inside.limited) (f.2 ∙ h.inside.is_open) f.0 k
+    go (Fails why cs) f k = λ rest. ap (λ l. reading_of l (text ++ b ∷ [] ++ rest)) (sym h.inside.limited) ∙ f rest
+
+-- a piece was taken, and one byte more
+gives_byte : (old st new : State) (piece : List ℕ) (b : ℕ) (before from to : List Command) → Gives old st piece before from → GoesTo new from to (byte_step st b) → Gives old new (piece ++ b ∷ []) before to
+gives_byte old st new piece b before from to gives does = go (byte_step st b) refl does
+  where
+    go : (step : Step) → byte_step st b ≡ step → GoesTo new from to step → Gives old new (piece ++ b ∷ []) before to
+    go (Goes s cs) e g = record {
+      commands = gives.commands ++ cs;
+      added = g.1 ∙ (ap (λ x. x ++ cs) gives.added ∙ append_assoc before gives.commands cs);
+      has_read = λ limits text given h.
+          let P = λ (x : Step). Reads limits (text ++ piece ++ b ∷ []) (given ++ gives.commands) x in
+          let next : HasRead limits (text ++ piece ++ b ∷ []) (given ++ gives.commands ++ cs) s = subst P e (byte-reads limits (text ++ piece) (given ++ gives.commands) st b (gives.has_read limits text given h)) in
+          rw (g.0, ← append_assoc text piece (b ∷ []), ← append_assoc given gives.commands cs) next;
+    }
+    go (Fails why cs) e g = absurd g
+
+-- the loop over a piece takes the byte at its place i
+pub gives_more : (old st new : State) (piece : List ℕ) (i : ℕ) (before from to : List Command) → i < length piece → Gives old st (take i piece) before from → GoesTo new from to (byte_step st (get_or piece i 0))
+    → Gives old new (take (i + 1) piece) before to
+gives_more old st new piece i before from to l gives does = rw (take_more piece i 0 l) (gives_byte old st new (take i piece) (get_or piece i 0) before from to gives does)
+
+-- the byte behind a front of a piece refuses the text, whatever follows
+refuses_byte : (old st : State) (piece more : List ℕ) (b : ℕ) (before from to : List Command) (why : Refusal) → Gives old st piece before from → FailsAs why from to (byte_step st b) → Refuses old (piece ++ b ∷ more) before to why
+refuses_byte old st piece more b before from to why gives does = go (byte_step st b) refl does
+  where
+    go : (step : Step) → byte_step st b ≡ step → FailsAs why from to step → Refuses old (piece ++ b ∷ more) before to why
+    go (Goes s cs) e g = absurd g
+    go (Fails why' cs) e g = record {
+      commands = gives.commands ++ cs;
+      added = g.1 ∙ (ap (λ x. x ++ cs) gives.added ∙ append_assoc before gives.commands cs);
+      final = λ limits text given h rest.
+          let P = λ (x : Step). Reads limits (text ++ piece ++ b ∷ []) (given ++ gives.commands) x in
+          let last : (rest : List ℕ) → reading_of limits (text ++ piece ++ b ∷ [] ++ rest) ≡ record { commands = given ++ gives.commands ++ cs; end = Refused why' }
+          = subst P e (byte-reads limits (text ++ piece) (given ++ gives.commands) st b (gives.has_read limits text given h)) in
+          let same : text ++ (piece ++ b ∷ more) ++ rest ≡ text ++ piece ++ b ∷ [] ++ (more ++ rest) = simp append_assoc in
+          rw (g.0, same, ← append_assoc given gives.commands cs) (last (more ++ rest));
+    }
+
+pub refuses_at : (old st new : State) (piece : List ℕ) (i : ℕ) (before from to : List Command) (error : ReadError) (why : Refusal) → i < length piece → Gives old st (take i piece) before from
+    → ◌≡◌ {A = Result (Unit {0}) ReadError} (Err error) (Err (IsRefused why)) → Does {X = Unit {0}} (Err error) new from to (byte_step st (get_or piece i 0)) → Refuses old piece before to why
+refuses_at old st new piece i before from to (IsRefused why') why l gives e does =
+    let same : why' ≡ why = cc in
+    let whole : take i piece ++ get_or piece i 0 ∷ drop (suc i) piece ≡ piece = ap (λ t. take i piece ++ t) (sym (drop-cons piece i 0 l)) ∙ take-append-drop i piece in
+    let P = λ (t : List ℕ). Refuses old t before to why in
+    let Q = λ (w : Refusal). FailsAs w from to (byte_step st (get_or piece i 0)) in
+    subst P whole (refuses_byte old st (take i piece) (drop (suc i) piece) (get_or piece i 0) before from to why gives (subst Q same does))
+refuses_at old st new piece i before from to Memory why l gives e does = cc
+
+-- the text ends
+pub ends_goes : (old new : State) (before now : List Command) → GoesTo new before now (end_step old) → Ends old before now Ended
+ends_goes old new before now does = go (end_step old) refl does
+  where
+    go : (step : Step) → end_step old ≡ step → GoesTo new before now step → Ends old before now Ended
+    go (Goes s cs) e g = record {
+      commands = cs;
+      added = g.1;
+      whole = λ limits text given h.
+          let P = λ (x : Step). EndsAs old text given x in
+          ap (λ l. reading_of l text) (sym h.inside.limited) ∙ subst P e (end-follows text given old h.inside.stands);
+    }
+    go (Fails why cs) e g = absurd g
+
+ends_fails : (old : State) (before now : List Command) (why : Refusal) → FailsAs why before now (end_step old) → Ends old before now (Refused why)
+ends_fails old before now why does = go (end_step old) refl does
+  where
+    go : (step : Step) → end_step old ≡ step → FailsAs why before now step → Ends old before now (Refused why)
+    go (Goes s cs) e g = absurd g
+    go (Fails why' cs) e g = record {
+      commands = cs;
+      added = g.1;
+      whole = λ limits text given h.
+          let P = λ (x : Step). EndsAs old text given x in
+          rw g.0 (ap (λ l. reading_of l text) (sym h.inside.limited) ∙ subst P e (end-follows text given old h.inside.stands));
+    }
+
+pub ends_refused : (old new : State) (before now : List Command) (error : ReadError) (why : Refusal) → ◌≡◌ {A = Result (Unit {0}) ReadError} (Err error) (Err (IsRefused why))
+    → Does {X = Unit {0}} (Err error) new before now (end_step old) → Ends old before now (Refused why)
+ends_refused old new before now (IsRefused why') why e does =
+    let same : why' ≡ why = cc in
+    let Q = λ (w : Refusal). FailsAs w before now (end_step old) in
+    ends_fails old before now why (subst Q same does)
+ends_refused old new before now Memory why e does = cc

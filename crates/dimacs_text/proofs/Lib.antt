@@ -1,0 +1,9 @@
+pub mod Walks
+pub mod Words
+pub mod Literals
+pub mod Feed
+pub mod Fronts
+pub mod Closes
+pub mod Bounds
+pub mod Calls
+pub mod Printed

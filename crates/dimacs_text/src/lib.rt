@@ -1,0 +1,14 @@
+//! The text that clauses are read from, in any pieces, and the text that answers are written as.
+#![tactic(auto)]
+
+mod command;
+mod print;
+mod reader;
+mod refusal;
+mod state;
+mod token;
+
+pub use command::{Command, Commands};
+pub use print::{print_refusal, print_verdict};
+pub use reader::Reader;
+pub use refusal::{ReadError, Refusal};

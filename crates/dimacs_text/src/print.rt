@@ -1,0 +1,71 @@
+ghost use Rattle.std.specs.Prelude.{◌≡◌, ◌+◌, ◌-◌, ◌^◌, ◌<◌, ◌++◌, OnOk, OnErr, string_bytes};
+ghost use Rattle.dimacs_text.specs.Texts.{literal_text, values_text, literals_text, text_of_verdict, text_of_refusal};
+
+use crate::refusal::Refusal;
+use sat_lits::{List, Lit, NoMemory, Verdict};
+use std::alloc::AllocError;
+
+/// Appends the lines that report a verdict. For want of memory the list stays as it was.
+pub fn print_verdict(to: &mut List<u8>, verdict: &Verdict) -> Result<(), NoMemory>
+    ensures ok { OnOk result (to.new ≡ to.old ++ text_of_verdict verdict.now) }
+    ensures err { OnErr result (to.new ≡ to.old) }
+{
+    let mut text = String::new(to.allocator());
+    write_verdict(&mut text, verdict)?;
+    to.extend_from_slice(text.as_bytes())
+}
+
+/// Appends the line that reports a refusal. For want of memory the list stays as it was.
+pub fn print_refusal(to: &mut List<u8>, refusal: &Refusal) -> Result<(), NoMemory>
+    ensures ok { OnOk result (to.new ≡ to.old ++ text_of_refusal refusal.now) }
+    ensures err { OnErr result (to.new ≡ to.old) }
+{
+    match refusal {
+        Refusal::NotPlain => to.extend_from_slice(b"c refused not-plain\n"),
+    }
+}
+
+fn write_verdict(text: &mut String, verdict: &Verdict) -> Result<(), AllocError>
+    ensures { OnOk result (string_bytes text.new ≡ string_bytes text.old ++ text_of_verdict verdict.now) }
+{
+    match verdict {
+        Verdict::Sat(values) => {
+            text.push_str("s SATISFIABLE\nv")?;
+            write_values(text, values.as_slice())?;
+            text.push_str(" 0\n")
+        }
+        Verdict::Unsat(failed) => {
+            text.push_str("s UNSATISFIABLE\nc failed")?;
+            write_literals(text, failed.as_slice())?;
+            text.push_str(" 0\n")
+        }
+    }
+}
+
+/// Writes for each variable in order the literal that its value makes true.
+fn write_values(text: &mut String, values: &[bool]) -> Result<(), AllocError>
+    ensures { OnOk result (string_bytes text.new ≡ string_bytes text.old ++ values_text values.now) }
+{
+    for (var, value) in values.iter().enumerate() {
+        write_literal(text, !*value, var)?;
+    }
+    Ok(())
+}
+
+fn write_literals(text: &mut String, lits: &[Lit]) -> Result<(), AllocError>
+    ensures { OnOk result (string_bytes text.new ≡ string_bytes text.old ++ literals_text lits.now) }
+{
+    for lit in lits {
+        write_literal(text, lit.negative, lit.var.0 as usize)?;
+    }
+    Ok(())
+}
+
+/// Writes a blank and a literal of the variable, which is numbered from 1 in the text.
+fn write_literal(text: &mut String, negative: bool, var: usize) -> Result<(), AllocError>
+    requires { var < 2 ^ 64 - 1 }
+    ensures { OnOk result (string_bytes text.new ≡ string_bytes text.old ++ literal_text negative var) }
+{
+    let sign = if negative { "-" } else { "" };
+    write!(text, " {sign}{}", var + 1)
+}
