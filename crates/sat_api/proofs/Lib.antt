@@ -1,0 +1,3 @@
+pub mod Counts
+pub mod Passed
+pub mod Refusals

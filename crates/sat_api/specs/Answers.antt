@@ -1,0 +1,45 @@
+-- What an answer says.
+use Rattle.std.specs.Prelude.{◌≡◌, Bool, true, not, List, map, Some, None}
+use Rattle.sat_lits.specs.Meaning.{Problem, IsModel}
+use Rattle.sat_lits.specs.Verdicts.{makes_true, IsRight}
+use Rattle.sat_lits.specs.declared.literal.Lit.{Lit}
+use Rattle.sat_lits.specs.declared.verdict.Verdict.TheVariants as verdict
+use Rattle.sat_api.specs.declared.solver.Answer.{Answer}
+use Rattle.sat_api.specs.declared.solver.Answer.TheVariants.{Sat, Unsat}
+use Rattle.sat_api.specs.State.{SolverState}
+
+-- nothing satisfies every item
+abbrev pub HasNoModel : Problem → Type 0
+HasNoModel f = (values : List Bool) → IsModel f values → ⊥
+
+-- the literal that is true where this one is false
+abbrev pub negated : Lit → Lit
+negated l = record { var = l.var; negative = not l.negative }
+
+-- a model that makes every assumption true is left to be read
+pub record TellsModel (f : Problem) (assumptions : List Lit) (new : SolverState) : Type 0 where
+  pub values : List Bool
+  pub model : new.model ≡ Some values
+  pub conflict : new.conflict ≡ None
+  pub right : IsRight f assumptions (verdict.Sat values)
+
+-- the clause of the negated failed assumptions is left to be read
+pub record TellsConflict (f : Problem) (assumptions : List Lit) (new : SolverState) : Type 0 where
+  pub failed : List Lit
+  pub model : new.model ≡ None
+  pub conflict : new.conflict ≡ Some (map negated failed)
+  pub right : IsRight f assumptions (verdict.Unsat failed)
+
+-- an answer is a right verdict, and its model or its conflict is left to be read
+abbrev pub Answers : SolverState → SolverState → List Lit → Answer → Type 0
+Answers old new assumptions Sat = TellsModel old.problem assumptions new
+Answers old new assumptions Unsat = TellsConflict old.problem assumptions new
+
+-- a model that makes every assumption true
+abbrev pub HasModelUnder : Problem → List Lit → Type 0
+HasModelUnder f assumptions = (values : List Bool) × IsModel f values × (makes_true values assumptions ≡ true)
+
+-- Sat comes where there is such a model, and Unsat where there is none
+abbrev pub Decides : Problem → List Lit → Answer → Type 0
+Decides f assumptions Sat = HasModelUnder f assumptions
+Decides f assumptions Unsat = HasModelUnder f assumptions → ⊥

@@ -1,0 +1,161 @@
+ghost use Rattle.std.specs.Prelude.{◌≡◌, ◌≢◌, ◌+◌, ◌<◌, ◌↔◌, ℕ, [], Some, None, Err, length, IfOk, IfErr, IfSome, OnOk, OnErr};
+ghost use Rattle.std.specs.Option.{option_copied};
+ghost use Rattle.sat_lits.specs.declared.formula.Item.TheVariants.{Clause};
+ghost use Rattle.sat_lits.specs.Limits.{standard_limits};
+ghost use Rattle.sat_lits.specs.Meaning.{IsModel, Follows};
+ghost use Rattle.sat_lits.specs.Formulas.{with_vars, with_item, first_unknown, numbers_of, lit_count};
+ghost use Rattle.sat_api.specs.State.{unanswered};
+ghost use Rattle.sat_api.specs.Answers.{Answers, Decides};
+
+use crate::error::ApiError;
+use crate::search::find_model;
+use sat_lits::{Formula, Limits, List, Lit};
+use sat_ports::Alarm;
+use std::alloc::Global;
+use std::marker::Model;
+use std::thread::Threads;
+
+/// What `solve` found.
+#[derive(Clone, Copy, Debug, PartialEq, Eq)]
+pub enum Answer {
+    /// An assignment satisfies every item and every assumption.
+    Sat,
+    /// No assignment does.
+    Unsat,
+}
+
+/// A solver: variables and clauses over them, within limits, and what the latest call answered.
+///
+/// A call that is refused changes nothing, except that a `solve` which runs out of memory drops
+/// the earlier answer.
+#[derive(Debug, Drop)]
+pub struct SatSolver {
+    alloc: Global,
+    formula: Formula,
+    model: Option<List<bool>>,
+    conflict: Option<List<Lit>>,
+}
+
+impl Model for SatSolver {
+    ghost use Rattle.sat_api.specs.State.{SolverState};
+
+    ghost Value = { SolverState };
+
+    ghost use Rattle.sat_api.specs.Kept.{state_of, IsKept};
+
+    ghost view = { state_of };
+
+    ghost invariant = { IsKept };
+}
+
+impl SatSolver {
+    /// No variables and no items, with the standard limits. It takes no memory.
+    pub fn new(alloc: Global) -> SatSolver
+        ensures { result ≡ unanswered (record { vars = 0; items = [] }) standard_limits }
+    {
+        SatSolver {
+            alloc,
+            formula: Formula::new(alloc, Limits::standard()),
+            model: None,
+            conflict: None,
+        }
+    }
+
+    /// Adds `by` variables. `TooManyVars` comes exactly where there would be more than the limit.
+    pub fn new_vars(&mut self, by: u32) -> Result<(), ApiError>
+        ensures ok { OnOk result (self.new ≡ unanswered (with_vars by self.old.problem) self.old.limits) }
+
+        ensures too_many_vars { (result ≡ Err ApiError.TooManyVars) ↔ (self.old.limits.vars < self.old.problem.vars + by) }
+        ensures only { IfErr result (λ e. e ≡ ApiError.TooManyVars) }
+        ensures err { OnErr result (self.new ≡ self.old) }
+    {
+        self.formula.grow(by)?;
+        self.model = None;
+        self.conflict = None;
+        Ok(())
+    }
+
+    /// Appends a clause as given, with repeats, also the empty one.
+    ///
+    /// `NoSuchVar` comes exactly where a variable is not there, and names the first such;
+    /// `TooManyLits` exactly where else the literals of all items would be more than the limit;
+    /// `Memory` last.
+    pub fn add_clause(&mut self, lits: &[Lit]) -> Result<(), ApiError>
+        ensures ok { OnOk result (self.new ≡ unanswered (with_item (Clause lits.now) self.old.problem) self.old.limits) }
+
+        ensures no_such_var { (n : ℕ) → (result ≡ Err (ApiError.NoSuchVar n))
+            ↔ (first_unknown self.old.problem.vars (numbers_of (Clause lits.now)) ≡ Some n) }
+        ensures too_many_lits { (result ≡ Err ApiError.TooManyLits)
+            ↔ ((first_unknown self.old.problem.vars (numbers_of (Clause lits.now)) ≡ None)
+            × (self.old.limits.lits < lit_count self.old.problem.items + length lits.now)) }
+        ensures no_other { result ≢ Err ApiError.TooManyVars }
+        ensures err { OnErr result (self.new ≡ self.old) }
+    {
+        self.formula.push_clause(lits)?;
+        self.model = None;
+        self.conflict = None;
+        Ok(())
+    }
+
+    /// Looks for an assignment that satisfies every item and every assumption.
+    ///
+    /// After `Sat` the model is there to be read, and after `Unsat` the conflict. `Memory` is the
+    /// only error: then the items stand, and neither is there. No thread is started, and the alarm
+    /// is not asked.
+    pub fn solve<R: Threads + Sync, A: Alarm + Send>(
+        &mut self,
+        rt: &R,
+        assumptions: &[Lit],
+        alarm: &mut A,
+    ) -> Result<Answer, ApiError>
+        requires { assumptions.now ≡ [] }
+        ensures answers { IfOk result (Answers self.old self.new assumptions.now) }
+        ensures decided { IfOk result (Decides self.old.problem assumptions.now) }
+
+        ensures problem { self.new.problem ≡ self.old.problem }
+        ensures limits { self.new.limits ≡ self.old.limits }
+        ensures raises { A.raises alarm.new ≡ A.raises alarm.old }
+
+        ensures only { IfErr result (λ e. e ≡ ApiError.Memory) }
+        ensures err { OnErr result (self.new ≡ unanswered self.old.problem self.old.limits) }
+    {
+        self.model = None;
+        self.conflict = None;
+        match find_model(self.alloc, &self.formula)? {
+            Some(values) => {
+                self.model = Some(values);
+                Ok(Answer::Sat)
+            }
+            None => {
+                self.conflict = Some(List::new(self.alloc));
+                Ok(Answer::Unsat)
+            }
+        }
+    }
+
+    /// The number of variables.
+    pub fn n_vars(&self) -> u32
+        ensures { result ≡ self.now.problem.vars }
+    {
+        self.formula.vars()
+    }
+
+    /// The values of the variables in order, where the latest call that was not refused was a
+    /// `solve` that answered `Sat`.
+    pub fn get_model(&self) -> Option<&[bool]>
+        ensures value { option_copied result ≡ self.now.model }
+        ensures satisfies { IfSome result (λ values. IsModel self.now.problem values.now) }
+    {
+        self.model.as_ref().map(|values| values.as_slice())
+    }
+
+    /// The clause of the negated failed assumptions, where the latest call that was not refused
+    /// was a `solve` that answered `Unsat`. It is empty where the items alone contradict each
+    /// other.
+    pub fn get_conflict(&self) -> Option<&[Lit]>
+        ensures value { option_copied result ≡ self.now.conflict }
+        ensures follows { IfSome result (λ lits. Follows self.now.problem lits.now) }
+    {
+        self.conflict.as_ref().map(|lits| lits.as_slice())
+    }
+}
