@@ -69,3 +69,42 @@ fn write_literal(text: &mut String, negative: bool, var: usize) -> Result<(), Al
     let sign = if negative { "-" } else { "" };
     write!(text, " {sign}{}", var + 1)
 }
+
+#[cfg(test)]
+mod tests {
+    use super::*;
+    use sat_lits::Var;
+    use std::test::Fail;
+
+    #[test]
+    fn prints_verdicts_and_refusals(rt: HostRuntime) -> Result<(), Fail> {
+        let alloc = rt.alloc();
+        let one = Lit {
+            var: Var(0),
+            negative: false,
+        };
+        let minus_four = Lit {
+            var: Var(3),
+            negative: true,
+        };
+        let mut text = List::new(alloc);
+        print_verdict(
+            &mut text,
+            &Verdict::Sat(List::from_slice(alloc, &[true, false])?),
+        )?;
+        print_verdict(&mut text, &Verdict::Sat(List::new(alloc)))?;
+        print_verdict(&mut text, &Verdict::Unsat(List::new(alloc)))?;
+        print_verdict(
+            &mut text,
+            &Verdict::Unsat(List::from_slice(alloc, &[one, minus_four])?),
+        )?;
+        print_refusal(&mut text, &Refusal::NotPlain)?;
+        let lines = b"s SATISFIABLE\nv 1 -2 0\n\
+            s SATISFIABLE\nv 0\n\
+            s UNSATISFIABLE\nc failed 0\n\
+            s UNSATISFIABLE\nc failed 1 -4 0\n\
+            c refused not-plain\n";
+        assert_eq!(rt; text.as_slice(), lines.as_slice());
+        Ok(())
+    }
+}

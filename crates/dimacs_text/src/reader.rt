@@ -88,3 +88,121 @@ impl Reader {
         }
     }
 }
+
+#[cfg(test)]
+mod tests {
+    use super::*;
+    use crate::command::Command;
+    use crate::refusal::Refusal;
+    use std::alloc::AllocError;
+    use std::test::Fail;
+
+    /// A text in two pieces, the limit on literals, and what is read of it.
+    struct Row {
+        pieces: [&'static str; 2],
+        lits: u64,
+        read: &'static str,
+    }
+
+    const ROWS: [Row; 11] = [
+        Row {
+            pieces: ["1 2", " 0"],
+            lits: 9,
+            read: "1 2 0 end",
+        },
+        Row {
+            pieces: ["1 -2", "3 0"],
+            lits: 9,
+            read: "1 -23 0 end",
+        },
+        Row {
+            pieces: ["1 2", ""],
+            lits: 9,
+            read: "refused",
+        },
+        Row {
+            pieces: ["1 a 0", ""],
+            lits: 9,
+            read: "refused",
+        },
+        Row {
+            pieces: ["16777216 0", ""],
+            lits: 9,
+            read: "refused",
+        },
+        Row {
+            pieces: ["-0", ""],
+            lits: 9,
+            read: "refused",
+        },
+        Row {
+            pieces: ["1 0\n", "p cnf 1 1"],
+            lits: 9,
+            read: "1 0 refused",
+        },
+        Row {
+            pieces: ["1 2 0 1 ", "2 0"],
+            lits: 3,
+            read: "1 2 0 refused",
+        },
+        Row {
+            pieces: ["", ""],
+            lits: 9,
+            read: "end",
+        },
+        Row {
+            pieces: ["00", ""],
+            lits: 9,
+            read: "0 end",
+        },
+        Row {
+            pieces: ["\t1\n2\x0b3\x0c4", "\r5 0"],
+            lits: 9,
+            read: "1 2 3 4 5 0 end",
+        },
+    ];
+
+    fn read_pieces(
+        reader: &mut Reader,
+        pieces: &[&str],
+        to: &mut Commands,
+    ) -> Result<(), ReadError> {
+        for piece in pieces {
+            reader.feed(piece.as_bytes(), to)?;
+        }
+        reader.finish(to)
+    }
+
+    /// The clauses that came of the row's pieces, and how the reading ended.
+    fn read(alloc: Global, row: &Row) -> Result<String, AllocError> {
+        let mut text = String::new(alloc);
+        let Some(limits) = Limits::new(16_777_215, row.lits, 1, 2_147_483_648) else {
+            return Ok(text);
+        };
+        let mut reader = Reader::new(alloc, limits);
+        let mut commands = Commands::new(alloc);
+        let ended = read_pieces(&mut reader, &row.pieces, &mut commands);
+        while let Some(Command::Clause(lits)) = commands.take_first() {
+            for lit in lits.as_slice() {
+                let sign = if lit.negative { "-" } else { "" };
+                write!(text, "{sign}{} ", lit.var.0 as u64 + 1)?;
+            }
+            text.push_str("0 ")?;
+        }
+        text.push_str(match ended {
+            Ok(()) => "end",
+            Err(ReadError::Refused(Refusal::NotPlain)) => "refused",
+            Err(ReadError::Memory) => "memory",
+        })?;
+        Ok(text)
+    }
+
+    #[test]
+    fn reads_plain_texts(rt: HostRuntime) -> Result<(), Fail> {
+        for row in &ROWS {
+            let text = read(rt.alloc(), row)?;
+            assert_eq!(rt; text.as_str(), row.read);
+        }
+        Ok(())
+    }
+}
