@@ -155,7 +155,7 @@ word_leaves s Minus h f = token_leaves s (token_of s.limits.vars Minus)
 word_leaves s (Digits negative v) h f = token_leaves s (token_of s.limits.vars (Digits negative v))
 word_leaves s NoNumber h f = token_leaves s (token_of s.limits.vars NoNumber)
 
-solid_push : (w : List ℕ) (b : ℕ) → IsSolid w → is_blank b ≡ false → IsSolid (w ++ b ∷ [])
+pub solid_push : (w : List ℕ) (b : ℕ) → IsSolid w → is_blank b ≡ false → IsSolid (w ++ b ∷ [])
 solid_push [] b s h = (h, tt)
 solid_push (x ∷ w) b s h = (s.0, solid_push w b s.1 h)
 
@@ -246,7 +246,7 @@ abbrev pub EndsAs : State → List ℕ → List Command → Step → Type 0
 EndsAs old text commands (Goes s cs) = reading_of old.limits text ≡ record { commands = commands ++ cs; end = Ended }
 EndsAs old text commands (Fails r cs) = reading_of old.limits text ≡ record { commands = commands ++ cs; end = Refused r }
 
-whole_reading : (limits : LimitNumbers) (text : List ℕ) → length text ≤ limits.input → reading_of limits text ≡ read true limits text
+pub whole_reading : (limits : LimitNumbers) (text : List ℕ) → length text ≤ limits.input → reading_of limits text ≡ read true limits text
 unfolding reading_of
 whole_reading limits text h = elim_true (nat_le (length text) limits.input) (read true limits text) _ (le-leb _ _ h)
 

@@ -7,3 +7,4 @@ pub mod Closes
 pub mod Bounds
 pub mod Calls
 pub mod Printed
+pub mod Plainness

@@ -4,3 +4,4 @@ pub mod Grammar
 pub mod Steps
 pub mod Reads
 pub mod Texts
+pub mod Plain

@@ -2,6 +2,7 @@
 #![tactic(auto)]
 
 mod command;
+mod plain;
 mod print;
 mod reader;
 mod refusal;
@@ -9,6 +10,7 @@ mod state;
 mod token;
 
 pub use command::{Command, Commands};
+pub use plain::plain_texts;
 pub use print::{print_refusal, print_verdict};
 pub use reader::Reader;
 pub use refusal::{ReadError, Refusal};
