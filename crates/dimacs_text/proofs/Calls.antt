@@ -4,8 +4,10 @@ use Rattle.std.proofs.lemmas.List.{take_all, take-append-drop, take_more}
 use Rattle.std.proofs.Math.Seq.{drop-cons}
 use Rattle.sat_lits.specs.Limits.{LimitNumbers}
 use Rattle.dimacs_text.specs.Grammar.{Ended, Refused, read, reading_of, decided_of}
+use Rattle.dimacs_text.specs.Commands.{AreWithin}
 use Rattle.dimacs_text.specs.Steps.{Step, Goes, Fails, GoesTo, FailsAs, Does, byte_step, end_step}
-use Rattle.dimacs_text.specs.Reads.{Stands, Counts, HasRead, Gives, Refuses, Ends, rest_at, word_after}
+use Rattle.dimacs_text.specs.Stands.{Stands, Counts, rest_at, word_after}
+use Rattle.dimacs_text.specs.Reads.{HasRead, Gives, Refuses, RunsOut, Ends}
 use Rattle.dimacs_text.specs.declared.token.Word.TheVariants.{Empty}
 use Rattle.dimacs_text.specs.declared.refusal.ReadError.{ReadError}
 use Rattle.dimacs_text.specs.declared.refusal.ReadError.TheVariants.{Refused as IsRefused, Memory}
@@ -15,8 +17,8 @@ use Rattle.dimacs_text.specs.declared.state.Stage.TheVariants.{Open as IsOpen}
 use Rattle.dimacs_text.specs.declared.command.Command.{Command}
 use Rattle.dimacs_text.proofs.Feed.{Follows, EndsAs, byte-follows, end-follows, stands-open}
 use Rattle.dimacs_text.proofs.Fronts.{stands-front}
-use Rattle.dimacs_text.proofs.Closes.{reading_of-closed}
-use Rattle.dimacs_text.proofs.Bounds.{Keeps, byte-keeps, counts-within, counts-none}
+use Rattle.dimacs_text.proofs.Ends.{reading_of-closed}
+use Rattle.dimacs_text.proofs.Bounds.{Keeps, IsWithin, byte-keeps, end-within, counts-within, counts-none}
 
 -- the commands so far are those that are decided
 stands-decided : (text : List ℕ) (commands : List Command) (st : State) → Stands text commands st → decided_of st.limits text ≡ commands
@@ -39,6 +41,7 @@ has_read limits text given r limited is_open stands counts =
       inside = record { limited = refl; is_open = is_open; stands = stands; counts = counts };
     })
 
+-- a reader that was fed nothing
 pub has_read_nothing : (r : State) → r.word ≡ Empty → r.place ≡ 0 → r.in_clause ≡ false → r.lits ≡ [] → r.count ≡ 0 → r.stage ≡ IsOpen → HasRead r.limits [] [] r
 unfolding read rest_at word_after
 has_read_nothing r word place in_clause lits count is_open = has_read r.limits [] [] r refl is_open (record {
@@ -58,14 +61,17 @@ has_read_nothing r word place in_clause lits count is_open = has_read r.limits [
 -- what a byte makes of a reader
 abbrev Reads : LimitNumbers → List ℕ → List Command → Step → Type 0
 Reads limits text given (Goes s cs) = HasRead limits text (given ++ cs) s
-Reads limits text given (Fails why cs) = (rest : List ℕ) → reading_of limits (text ++ rest) ≡ record { commands = given ++ cs; end = Refused why }
+Reads limits text given (Fails why cs) = ((rest : List ℕ) → reading_of limits (text ++ rest) ≡ record { commands = given ++ cs; end = Refused why }) × AreWithin limits (given ++ cs)
 
+-- a byte makes of a reader what its step says
 byte-reads : (limits : LimitNumbers) (text : List ℕ) (given : List Command) (st : State) (b : ℕ) → HasRead limits text given st → Reads limits (text ++ b ∷ []) given (byte_step st b)
 byte-reads limits text given st b h = go (byte_step st b) (byte-follows text given st b h.inside.stands) (byte-keeps given st b h.inside.counts)
   where
-    go : (step : Step) → Follows st (text ++ b ∷ []) given step → Keeps given step → Reads limits (text ++ b ∷ []) given step
-    go (Goes s cs) f k = has_read limits (text ++ b ∷ []) (given ++ cs) s (f.1 ∙ h.inside.limited) (f.2 ∙ h.inside.is_open) f.0 k
-    go (Fails why cs) f k = λ rest. ap (λ l. reading_of l (text ++ b ∷ [] ++ rest)) (sym h.inside.limited) ∙ f rest
+    go : (step : Step) → Follows st (text ++ b ∷ []) given step → Keeps st given step → Reads limits (text ++ b ∷ []) given step
+    go (Goes s cs) f k = has_read limits (text ++ b ∷ []) (given ++ cs) s (f.1 ∙ h.inside.limited) (f.2 ∙ h.inside.is_open) f.0 k.0
+    go (Fails why cs) f k =
+        let P = λ (l : LimitNumbers). AreWithin l (given ++ cs) in
+        (λ rest. ap (λ l. reading_of l (text ++ b ∷ [] ++ rest)) (sym h.inside.limited) ∙ f rest, subst P h.inside.limited k)
 
 -- a piece was taken, and one byte more
 gives_byte : (old st new : State) (piece : List ℕ) (b : ℕ) (before from to : List Command) → Gives old st piece before from → GoesTo new from to (byte_step st b) → Gives old new (piece ++ b ∷ []) before to
@@ -97,13 +103,17 @@ refuses_byte old st piece more b before from to why gives does = go (byte_step s
       commands = gives.commands ++ cs;
       added = g.1 ∙ (ap (λ x. x ++ cs) gives.added ∙ append_assoc before gives.commands cs);
       final = λ limits text given h rest.
-          let P = λ (x : Step). Reads limits (text ++ piece ++ b ∷ []) (given ++ gives.commands) x in
-          let last : (rest : List ℕ) → reading_of limits (text ++ piece ++ b ∷ [] ++ rest) ≡ record { commands = given ++ gives.commands ++ cs; end = Refused why' }
-          = subst P e (byte-reads limits (text ++ piece) (given ++ gives.commands) st b (gives.has_read limits text given h)) in
           let same : text ++ (piece ++ b ∷ more) ++ rest ≡ text ++ piece ++ b ∷ [] ++ (more ++ rest) = simp append_assoc in
-          rw (g.0, same, ← append_assoc given gives.commands cs) (last (more ++ rest));
+          rw (g.0, same, ← append_assoc given gives.commands cs) ((last limits text given h).0 (more ++ rest));
+      within = λ limits text given h. rw (← append_assoc given gives.commands cs) (last limits text given h).1;
     }
+      where
+        last : (limits : LimitNumbers) (text : List ℕ) (given : List Command) → HasRead limits text given old → Reads limits (text ++ piece ++ b ∷ []) (given ++ gives.commands) (Fails why' cs)
+        last limits text given h =
+            let P = λ (x : Step). Reads limits (text ++ piece ++ b ∷ []) (given ++ gives.commands) x in
+            subst P e (byte-reads limits (text ++ piece) (given ++ gives.commands) st b (gives.has_read limits text given h))
 
+-- the loop over a piece stops at a byte that refuses the text
 pub refuses_at : (old st new : State) (piece : List ℕ) (i : ℕ) (before from to : List Command) (error : ReadError) (why : Refusal) → i < length piece → Gives old st (take i piece) before from
     → ◌≡◌ {A = Result (Unit {0}) ReadError} (Err error) (Err (IsRefused why)) → Does {X = Unit {0}} (Err error) new from to (byte_step st (get_or piece i 0)) → Refuses old piece before to why
 refuses_at old st new piece i before from to (IsRefused why') why l gives e does =
@@ -114,33 +124,59 @@ refuses_at old st new piece i before from to (IsRefused why') why l gives e does
     subst P whole (refuses_byte old st (take i piece) (drop (suc i) piece) (get_or piece i 0) before from to why gives (subst Q same does))
 refuses_at old st new piece i before from to Memory why l gives e does = cc
 
--- the text ends
+-- memory runs out at the byte at the place i
+pub runs_out_at : (old st new : State) (piece : List ℕ) (i : ℕ) (before from to : List Command) (error : ReadError) (step : Step) → Gives old st (take i piece) before from
+    → ◌≡◌ {A = Result (Unit {0}) ReadError} (Err error) (Err Memory) → Does {X = Unit {0}} (Err error) new from to step → RunsOut old piece before to
+runs_out_at old st new piece i before from to (IsRefused why) step gives e does = cc
+runs_out_at old st new piece i before from to Memory step gives e does = record {
+  commands = gives.commands;
+  added = does ∙ gives.added;
+  front = λ limits text given h. (i, (gives.has_read limits text given h).decides);
+  within = λ limits text given h. (gives.has_read limits text given h).within;
+}
+
+-- what the end of a text makes of it
+abbrev Reaches : LimitNumbers → List ℕ → List Command → Step → Type 0
+Reaches limits text given (Goes s cs) = (reading_of limits text ≡ record { commands = given ++ cs; end = Ended }) × AreWithin limits (given ++ cs)
+Reaches limits text given (Fails why cs) = (reading_of limits text ≡ record { commands = given ++ cs; end = Refused why }) × AreWithin limits (given ++ cs)
+
+-- the end of a text makes of a reader what its step says
+end-reaches : (limits : LimitNumbers) (text : List ℕ) (given : List Command) (old : State) → HasRead limits text given old → Reaches limits text given (end_step old)
+end-reaches limits text given old h =
+    let P = λ (l : LimitNumbers). Reaches l text given (end_step old) in
+    subst P h.inside.limited (go (end_step old) (end-follows text given old h.inside.stands) (end-within given old h.inside.counts))
+  where
+    go : (step : Step) → EndsAs old text given step → IsWithin old.limits given step → Reaches old.limits text given step
+    go (Goes s cs) e within = (e, within)
+    go (Fails why cs) e within = (e, within)
+
+-- the text ends well
 pub ends_goes : (old new : State) (before now : List Command) → GoesTo new before now (end_step old) → Ends old before now Ended
-ends_goes old new before now does = go (end_step old) refl does
+ends_goes old new before now does = go (end_step old) (λ limits text given. end-reaches limits text given old) does
   where
-    go : (step : Step) → end_step old ≡ step → GoesTo new before now step → Ends old before now Ended
-    go (Goes s cs) e g = record {
+    go : (step : Step) → ((limits : LimitNumbers) (text : List ℕ) (given : List Command) → HasRead limits text given old → Reaches limits text given step) → GoesTo new before now step → Ends old before now Ended
+    go (Goes s cs) reaches g = record {
       commands = cs;
       added = g.1;
-      whole = λ limits text given h.
-          let P = λ (x : Step). EndsAs old text given x in
-          ap (λ l. reading_of l text) (sym h.inside.limited) ∙ subst P e (end-follows text given old h.inside.stands);
+      whole = λ limits text given h. (reaches limits text given h).0;
+      within = λ limits text given h. (reaches limits text given h).1;
     }
-    go (Fails why cs) e g = absurd g
+    go (Fails why cs) reaches g = absurd g
 
+-- the end of the text refuses it
 ends_fails : (old : State) (before now : List Command) (why : Refusal) → FailsAs why before now (end_step old) → Ends old before now (Refused why)
-ends_fails old before now why does = go (end_step old) refl does
+ends_fails old before now why does = go (end_step old) (λ limits text given. end-reaches limits text given old) does
   where
-    go : (step : Step) → end_step old ≡ step → FailsAs why before now step → Ends old before now (Refused why)
-    go (Goes s cs) e g = absurd g
-    go (Fails why' cs) e g = record {
+    go : (step : Step) → ((limits : LimitNumbers) (text : List ℕ) (given : List Command) → HasRead limits text given old → Reaches limits text given step) → FailsAs why before now step → Ends old before now (Refused why)
+    go (Goes s cs) reaches g = absurd g
+    go (Fails why' cs) reaches g = record {
       commands = cs;
       added = g.1;
-      whole = λ limits text given h.
-          let P = λ (x : Step). EndsAs old text given x in
-          rw g.0 (ap (λ l. reading_of l text) (sym h.inside.limited) ∙ subst P e (end-follows text given old h.inside.stands));
+      whole = λ limits text given h. rw g.0 (reaches limits text given h).0;
+      within = λ limits text given h. (reaches limits text given h).1;
     }
 
+-- the same, from the error that a call answers
 pub ends_refused : (old new : State) (before now : List Command) (error : ReadError) (why : Refusal) → ◌≡◌ {A = Result (Unit {0}) ReadError} (Err error) (Err (IsRefused why))
     → Does {X = Unit {0}} (Err error) new before now (end_step old) → Ends old before now (Refused why)
 ends_refused old new before now (IsRefused why') why e does =

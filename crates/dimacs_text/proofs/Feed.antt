@@ -7,7 +7,7 @@ use Rattle.dimacs_text.specs.Walk.{is_blank, word, walk}
 use Rattle.dimacs_text.specs.Tokens.{is_digit, literal_token, is_there}
 use Rattle.dimacs_text.specs.Grammar.{Ended, Refused, Open, Reading, read, reading_of, cut_off, reading_from, literals, literals_end, text_end, with_literal}
 use Rattle.dimacs_text.specs.Steps.{Step, Goes, Fails, first_digit, extended, token_of, token_step, word_step, byte_step, past_blank, at_end, end_step}
-use Rattle.dimacs_text.specs.Reads.{IsSolid, Stands, word_after, rest_at, closed, listing_in}
+use Rattle.dimacs_text.specs.Stands.{IsSolid, Stands, word_after, rest_at, closed, listing_in}
 use Rattle.dimacs_text.specs.declared.token.Token.{Token}
 use Rattle.dimacs_text.specs.declared.token.Token.TheVariants.{Ending, Literal, TooLarge, NoLiteral}
 use Rattle.dimacs_text.specs.declared.token.Word.{Word}
@@ -28,10 +28,12 @@ IsBegun Minus = Unit {0}
 IsBegun (Digits negative v) = Unit {0}
 IsBegun NoNumber = Unit {0}
 
+-- a choice of two words that have begun
 begun_elim : (v : Bool) (x y : Word) → IsBegun x → IsBegun y → IsBegun (elim v [ true ↦ x | false ↦ y ])
 begun_elim true x y h k = h
 begun_elim false x y h k = k
 
+-- a word with a byte more has begun
 extended-begun : (vars : ℕ) (word : Word) (b : ℕ) → IsBegun (extended vars word b)
 unfolding extended
 extended-begun vars Empty b = begun_elim (nat_eq b 45) Minus (first_digit false b) tt (begun_elim (is_digit b) (Digits false (b - 48)) NoNumber tt tt)
@@ -39,11 +41,13 @@ extended-begun vars Minus b = begun_elim (is_digit b) (Digits true (b - 48)) NoN
 extended-begun vars (Digits negative v) b = begun_elim (is_digit b) (Digits negative _) NoNumber tt tt
 extended-begun vars NoNumber b = tt
 
+-- a word that has begun stays so
 word_after-begun : (vars : ℕ) (w : List ℕ) (word : Word) → IsBegun word → IsBegun (word_after vars word w)
 unfolding word_after
 word_after-begun vars [] word h = h
 word_after-begun vars (b ∷ w) word h = word_after-begun vars w (extended vars word b) (extended-begun vars word b)
 
+-- a word that has begun ends as its token
 word_step-begun : (s : State) (word : Word) → IsBegun word → word_step s word ≡ token_step s (token_of s.limits.vars word)
 unfolding word_step
 word_step-begun s Empty h = absurd h
@@ -56,6 +60,7 @@ abbrev Leads : Bool → LimitNumbers → ℕ → List ℕ → List Command → R
 Leads whole limits after tail commands r (Goes s cs) = r ≡ rest_at whole limits after (commands ++ cs) s.in_clause (listing_in s) tail
 Leads whole limits after tail commands r (Fails refusal cs) = r ≡ record { commands = commands ++ cs; end = Refused refusal }
 
+-- the end of a token leads to what follows it
 leads_token : (whole : Bool) (after : ℕ) (tail : List ℕ) (commands : List Command) (s : State) (t : Token) (r : Reading)
     → r ≡ after_token whole s.limits after commands (listing_in s) tail t → Leads whole s.limits after tail commands r (token_step s t)
 unfolding token_step
@@ -134,6 +139,7 @@ abbrev Leaves : State → Step → Type 0
 Leaves old (Goes s cs) = (s.limits ≡ old.limits) × (s.word ≡ Empty) × (s.in_clause ≡ false → s.lits ≡ []) × (s.stage ≡ old.stage)
 Leaves old (Fails r cs) = Unit {0}
 
+-- what the end of a token leaves
 token_leaves : (s : State) (t : Token) → Leaves s (token_step s t)
 unfolding token_step
 token_leaves s Ending = (refl, refl, λ _. refl, refl)
@@ -148,6 +154,7 @@ token_leaves s (Literal lit) = go (nat_lt s.count s.limits.lits)
 token_leaves s TooLarge = tt
 token_leaves s NoLiteral = tt
 
+-- what the end of a word leaves
 word_leaves : (s : State) (word : Word) → s.word ≡ word → (s.in_clause ≡ false → s.lits ≡ []) → Leaves s (word_step s word)
 unfolding word_step
 word_leaves s Empty h f = (refl, h, f, refl)
@@ -155,6 +162,7 @@ word_leaves s Minus h f = token_leaves s (token_of s.limits.vars Minus)
 word_leaves s (Digits negative v) h f = token_leaves s (token_of s.limits.vars (Digits negative v))
 word_leaves s NoNumber h f = token_leaves s (token_of s.limits.vars NoNumber)
 
+-- one byte more that is no blank
 pub solid_push : (w : List ℕ) (b : ℕ) → IsSolid w → is_blank b ≡ false → IsSolid (w ++ b ∷ [])
 solid_push [] b s h = (h, tt)
 solid_push (x ∷ w) b s h = (s.0, solid_push w b s.1 h)
@@ -246,10 +254,12 @@ abbrev pub EndsAs : State → List ℕ → List Command → Step → Type 0
 EndsAs old text commands (Goes s cs) = reading_of old.limits text ≡ record { commands = commands ++ cs; end = Ended }
 EndsAs old text commands (Fails r cs) = reading_of old.limits text ≡ record { commands = commands ++ cs; end = Refused r }
 
+-- a text that is short enough is read whole
 pub whole_reading : (limits : LimitNumbers) (text : List ℕ) → length text ≤ limits.input → reading_of limits text ≡ read true limits text
 unfolding reading_of
 whole_reading limits text h = elim_true (nat_le (length text) limits.input) (read true limits text) _ (le-leb _ _ h)
 
+-- where the text ends no clause may be open
 end_leads : (text : List ℕ) (commands : List Command) (st : State) → reading_of st.limits text ≡ read true st.limits (text ++ []) → (step : Step)
     → Leads true st.limits st.place [] commands (read true st.limits (text ++ [])) step → EndsAs st text commands (at_end step)
 unfolding rest_at closed literals walk literals_end reading_from text_end
@@ -260,6 +270,7 @@ end_leads text commands st e (Goes s cs) leads = go s.in_clause (e ∙ leads)
     go false h = h
 end_leads text commands st e (Fails r cs) leads = e ∙ leads
 
+-- The reader's step at the text's end.
 pub end-follows : (text : List ℕ) (commands : List Command) (st : State) → Stands text commands st → EndsAs st text commands (end_step st)
 unfolding end_step
 end-follows text commands st stands =

@@ -4,18 +4,21 @@ use Rattle.std.proofs.Math.Seq.{take-append-add}
 use Rattle.dimacs_text.specs.Walk.{turned, walk}
 use Rattle.dimacs_text.proofs.Walks.{walk-keeps}
 use Rattle.dimacs_text.specs.Grammar.{Sofar, Listing, Literals, Listed, Broken, End, Ended, Refused, Open, Reading, read, reading_of, cut_off, reading_from, literals, phrase, clause_turn, listing_of, text_end, with_clause}
-use Rattle.dimacs_text.specs.Reads.{Stands, rest_at, closed, listing_in}
+use Rattle.dimacs_text.specs.Stands.{Stands, rest_at, closed, listing_in}
 use Rattle.sat_lits.specs.Limits.{LimitNumbers}
 use Rattle.dimacs_text.specs.declared.state.State.{State}
 use Rattle.dimacs_text.specs.declared.command.Command.{Command}
 use Rattle.dimacs_text.specs.declared.command.Command.TheVariants.{Clause}
 
+-- a list begins with another
 abbrev pub IsFront : List Command → List Command → Type 0
 IsFront xs ys = (zs : List Command) × (ys ≡ xs ++ zs)
 
+-- each list begins with itself
 front_same : (xs : List Command) → IsFront xs xs
 front_same xs = ([], sym (append-nil xs))
 
+-- with a list begins what begins with a longer one
 front_more : (xs ys : List Command) (c : Command) → IsFront (xs ++ c ∷ []) ys → IsFront xs ys
 front_more xs ys c h = (c ∷ h.0, h.1 ∙ append_assoc xs (c ∷ []) h.0)
 
@@ -32,6 +35,7 @@ walk-front whole limits text next place s = walk-keeps (phrase whole limits) (te
     at_turn a (Listed l after) on h = front_more a.commands _ (Clause l.lits) (h after (with_clause a.commands l))
     at_turn a (Broken end) on h = front_same a.commands
 
+-- the commands so far are a front of those of the rest
 rest-front : (whole : Bool) (limits : LimitNumbers) (place : ℕ) (commands : List Command) (in_clause : Bool) (l : Listing) (text : List ℕ) → IsFront commands (rest_at whole limits place commands in_clause l text).commands
 unfolding rest_at reading_from closed
 rest-front whole limits place commands false l text = walk-front whole limits text place place (record { commands = commands; count = l.count })
@@ -41,6 +45,7 @@ rest-front whole limits place commands true l text = go (literals whole limits p
     go (Listed m after) = front_more commands _ (Clause m.lits) (walk-front whole limits text after place (with_clause commands m))
     go (Broken end) = front_same commands
 
+-- The commands that a reader gave are a front of those of the text, however it goes on.
 pub stands-front : (text more : List ℕ) (commands : List Command) (st : State) → Stands text commands st → IsFront commands (reading_of st.limits (text ++ more)).commands
 unfolding reading_of
 stands-front text more commands st stands = go (nat_le (length (text ++ more)) st.limits.input)

@@ -3,7 +3,7 @@ use Rattle.std.proofs.Common.{◌≡◌, ℕ, suc, ◌+◌, ◌<◌, Bool, true,
 use Rattle.dimacs_text.specs.Walk.{is_blank, word, after_word, Next, Stop, turned, walk}
 use Rattle.dimacs_text.specs.Tokens.{literal_token, is_judged, is_there}
 use Rattle.dimacs_text.specs.Grammar.{Sofar, Listing, Literals, Listed, Broken, Refused, Open, Reading, reading_from, literals, literal_met, literal_turn, literals_end, phrase, clause_turn, listing_of, text_end, with_clause, with_literal}
-use Rattle.dimacs_text.specs.Reads.{IsSolid, closed, rest_at}
+use Rattle.dimacs_text.specs.Stands.{IsSolid, closed, rest_at}
 use Rattle.dimacs_text.specs.declared.token.Token.{Token}
 use Rattle.dimacs_text.specs.declared.token.Token.TheVariants.{Ending, Literal, TooLarge, NoLiteral}
 use Rattle.sat_lits.specs.Limits.{LimitNumbers}
@@ -16,15 +16,18 @@ abbrev pub IsBeyond : ℕ → Literals → Type 0
 IsBeyond place (Listed l after) = place < after
 IsBeyond place (Broken end) = Unit {0}
 
+-- what is after a later place is after an earlier one
 beyond_down : (place : ℕ) (r : Literals) → IsBeyond (suc place) r → IsBeyond place r
 beyond_down place (Listed l after) h = omega arith
 beyond_down place (Broken end) h = tt
 
+-- at the end of the text
 beyond_end : (whole : Bool) (place : ℕ) (l : Listing) → IsBeyond place (literals_end whole place l)
 unfolding literals_end
 beyond_end true place l = tt
 beyond_end false place l = tt
 
+-- at a token
 beyond_met : (limits : LimitNumbers) (place after : ℕ) (l : Listing) (t : Token) → place < after → IfStop (literal_met limits after l t) (IsBeyond place)
 unfolding literal_met
 beyond_met limits place after l Ending h = h
@@ -36,10 +39,12 @@ beyond_met limits place after l (Literal lit) h = go (nat_lt l.count limits.lits
 beyond_met limits place after l TooLarge h = tt
 beyond_met limits place after l NoLiteral h = tt
 
+-- a token is not empty
 length_word : (b : ℕ) (bs : List ℕ) → is_blank b ≡ false → 0 < length (word (b ∷ bs))
 unfolding word
 length_word b bs h = let e : word (b ∷ bs) ≡ b ∷ word bs = elim_false (is_blank b) [] (b ∷ word bs) h in rw e (omega arith)
 
+-- at the token at the front of a text
 beyond_turn : (whole : Bool) (limits : LimitNumbers) (place : ℕ) (l : Listing) (b : ℕ) (bs : List ℕ) → is_blank b ≡ false → IfStop (literal_turn whole limits place l (b ∷ bs)) (IsBeyond place)
 unfolding literal_turn
 beyond_turn whole limits place l b bs h = go (is_judged whole (b ∷ bs)) (beyond_met limits place _ l (literal_token limits.vars (word (b ∷ bs))) (omega (arith, length_word b bs h)))
@@ -49,6 +54,7 @@ beyond_turn whole limits place l b bs h = go (is_judged whole (b ∷ bs)) (beyon
     go true p = p
     go false p = tt
 
+-- a list ends after the place where it begins
 pub literals-beyond : (whole : Bool) (limits : LimitNumbers) (place : ℕ) (l : Listing) (text : List ℕ) → IsBeyond place (literals whole limits place l text)
 unfolding literals
 literals-beyond whole limits place l text = walk-all (literal_turn whole limits) (literals_end whole) IsBeyond (beyond_end whole) (beyond_turn whole limits) beyond_down text place place l
@@ -91,6 +97,7 @@ after_token whole limits after commands l tail (Literal lit) = elim (nat_lt l.co
 after_token whole limits after commands l tail TooLarge = record { commands = commands; end = Refused NotPlain }
 after_token whole limits after commands l tail NoLiteral = record { commands = commands; end = Refused NotPlain }
 
+-- a token that is judged, where a list is open
 list_token : (whole : Bool) (limits : LimitNumbers) (place after : ℕ) (commands : List Command) (l : Listing) (b : ℕ) (w tail : List ℕ) → IsSolid (b ∷ w) → after ≡ place + length (b ∷ w) → (t : Token)
     → literal_turn whole limits place l (b ∷ (w ++ tail)) ≡ literal_met limits after l t
     → closed whole limits place commands (b ∷ (w ++ tail)) (literals whole limits place l (b ∷ (w ++ tail))) ≡ after_token whole limits after commands l tail t
@@ -110,8 +117,9 @@ list_token whole limits place after commands l b w tail s n TooLarge e =
 list_token whole limits place after commands l b w tail s n NoLiteral e =
     ap (closed whole limits place commands (b ∷ (w ++ tail))) (walk-stop (literal_turn whole limits) (literals_end whole) place l _ b (w ++ tail) s.0 e)
 
-open_list : (whole : Bool) (limits : LimitNumbers) (place : ℕ) (commands : List Command) (in_list : Bool) (l : Listing) (b : ℕ) (bs : List ℕ) → is_blank b ≡ false → (in_list ≡ false → l.lits ≡ [])
-    → rest_at whole limits place commands in_list l (b ∷ bs) ≡ closed whole limits place commands (b ∷ bs) (literals whole limits place l (b ∷ bs))
+-- a byte that is no blank begins a list where none is open
+open_list : (whole : Bool) (limits : LimitNumbers) (place : ℕ) (commands : List Command) (in_clause : Bool) (l : Listing) (b : ℕ) (bs : List ℕ) → is_blank b ≡ false → (in_clause ≡ false → l.lits ≡ [])
+    → rest_at whole limits place commands in_clause l (b ∷ bs) ≡ closed whole limits place commands (b ∷ bs) (literals whole limits place l (b ∷ bs))
 unfolding rest_at
 open_list whole limits place commands true l b bs h f = refl
 open_list whole limits place commands false l b bs h f =
@@ -120,17 +128,17 @@ open_list whole limits place commands false l b bs h f =
     ∙ ap (λ ls. closed whole limits place commands (b ∷ bs) (literals whole limits place (record { lits = ls; count = l.count }) (b ∷ bs))) (sym e)
 
 -- A token that is judged is read in one step.
-pub rest-token : (whole : Bool) (limits : LimitNumbers) (place after : ℕ) (commands : List Command) (in_list : Bool) (l : Listing) (b : ℕ) (w tail : List ℕ) → IsSolid (b ∷ w) → IsApart tail
-    → whole || is_there tail ≡ true → (in_list ≡ false → l.lits ≡ []) → after ≡ place + length (b ∷ w)
-    → rest_at whole limits place commands in_list l (b ∷ (w ++ tail)) ≡ after_token whole limits after commands l tail (literal_token limits.vars (b ∷ w))
-rest-token whole limits place after commands in_list l b w tail s t k f n =
+pub rest-token : (whole : Bool) (limits : LimitNumbers) (place after : ℕ) (commands : List Command) (in_clause : Bool) (l : Listing) (b : ℕ) (w tail : List ℕ) → IsSolid (b ∷ w) → IsApart tail
+    → whole || is_there tail ≡ true → (in_clause ≡ false → l.lits ≡ []) → after ≡ place + length (b ∷ w)
+    → rest_at whole limits place commands in_clause l (b ∷ (w ++ tail)) ≡ after_token whole limits after commands l tail (literal_token limits.vars (b ∷ w))
+rest-token whole limits place after commands in_clause l b w tail s t k f n =
     let e = turn-judged whole limits place l (b ∷ w) tail s t k in
-    open_list whole limits place commands in_list l b (w ++ tail) s.0 f
+    open_list whole limits place commands in_clause l b (w ++ tail) s.0 f
     ∙ list_token whole limits place after commands l b w tail s n (literal_token limits.vars (b ∷ w)) (e ∙ ap (λ p. literal_met limits p l (literal_token limits.vars (b ∷ w))) (sym n))
 
 -- A blank is passed.
-pub rest-blank : (whole : Bool) (limits : LimitNumbers) (place : ℕ) (commands : List Command) (in_list : Bool) (l : Listing) (b : ℕ) (tail : List ℕ) → is_blank b ≡ true
-    → rest_at whole limits place commands in_list l (b ∷ tail) ≡ rest_at whole limits (suc place) commands in_list l tail
+pub rest-blank : (whole : Bool) (limits : LimitNumbers) (place : ℕ) (commands : List Command) (in_clause : Bool) (l : Listing) (b : ℕ) (tail : List ℕ) → is_blank b ≡ true
+    → rest_at whole limits place commands in_clause l (b ∷ tail) ≡ rest_at whole limits (suc place) commands in_clause l tail
 unfolding rest_at reading_from literals
 rest-blank whole limits place commands false l b tail h = walk-past_blank (phrase whole limits) (text_end whole) place (record { commands = commands; count = l.count }) b tail h
 rest-blank whole limits place commands true l b tail h =
@@ -144,14 +152,16 @@ turn-open limits place l w s =
     let e : after_word w ≡ [] = ap after_word (sym (append-nil w)) ∙ after_word-solid w [] s tt in
     elim_false (is_there (after_word w)) _ (Stop (Broken Open)) (ap is_there e)
 
+-- more of a list may come
 list-open : (limits : LimitNumbers) (place : ℕ) (commands : List Command) (l : Listing) (w text : List ℕ) → IsSolid w → closed false limits place commands text (literals false limits place l w) ≡ record { commands = commands; end = Open }
 unfolding literals closed walk literals_end
 list-open limits place commands l [] text s = refl
 list-open limits place commands l (b ∷ bs) text s =
     ap (closed false limits place commands text) (walk-stop (literal_turn false limits) (literals_end false) place l (Broken Open) b bs s.0 (turn-open limits place l (b ∷ bs) s))
 
-pub rest-open : (limits : LimitNumbers) (place : ℕ) (commands : List Command) (in_list : Bool) (l : Listing) (w : List ℕ) → IsSolid w → (in_list ≡ false → l.lits ≡ [])
-    → rest_at false limits place commands in_list l w ≡ record { commands = commands; end = Open }
+-- more of the text may come
+pub rest-open : (limits : LimitNumbers) (place : ℕ) (commands : List Command) (in_clause : Bool) (l : Listing) (w : List ℕ) → IsSolid w → (in_clause ≡ false → l.lits ≡ [])
+    → rest_at false limits place commands in_clause l w ≡ record { commands = commands; end = Open }
 unfolding rest_at reading_from walk text_end
 rest-open limits place commands true l w s f = list-open limits place commands l w w s
 rest-open limits place commands false l [] s f = refl

@@ -1,21 +1,22 @@
 -- A text ends, and is not refused, exactly where it is plain.
-use Rattle.std.proofs.Common.{◌≡◌, ◌↔◌, ℕ, suc, ◌+◌, ◌<◌, ◌≤◌, Bool, true, false, List, [], ◌∷◌, ◌++◌, Option, Some, None, IfSome, length, take, map, count_by, cond, nat_lt, nat_le, refl, sym, ◌∙◌, ap, append_assoc, arith}
-use Rattle.std.proofs.lemmas.Bool.{false≢true, ltb-true, lt-ltb, leb-true, le-leb}
+use Rattle.std.proofs.Common.{◌≡◌, ◌↔◌, ℕ, suc, ◌+◌, ◌≤◌, Bool, true, false, List, [], ◌∷◌, ◌++◌, Option, Some, None, IfSome, length, map, count_by, cond, nat_lt, refl, sym, ◌∙◌, ap, append_assoc, arith}
+use Rattle.std.proofs.lemmas.Bool.{false≢true, ltb-true, lt-ltb}
 use Rattle.std.proofs.lemmas.List.Sums.{sum_by-cons}
 use Rattle.std.specs.List.{last_or, list_all}
 use Rattle.sat_lits.specs.Limits.{LimitNumbers}
 use Rattle.sat_lits.specs.declared.literal.Lit.{Lit}
-use Rattle.dimacs_text.specs.Walk.{Turn, Next, Stop, turned, walk, is_blank, word}
-use Rattle.dimacs_text.specs.Tokens.{literal_token, is_judged}
-use Rattle.dimacs_text.specs.Grammar.{Sofar, Listing, Literals, Listed, Broken, End, Ended, Refused, Open, Reading, read, reading_of, cut_off, reading_from, literals, literal_met, literal_turn, literals_end, phrase, clause_turn, listing_of, text_end, with_clause, with_literal, nothing_read}
-use Rattle.dimacs_text.specs.Reads.{IsSolid, rest_at, closed}
-use Rattle.dimacs_text.specs.Plain.{token_in, tokens_after, tokens_of, kinds_of, is_literal_token, is_literal, IsPlain}
+use Rattle.dimacs_text.specs.Walk.{walk, is_blank}
+use Rattle.dimacs_text.specs.Tokens.{literal_token}
+use Rattle.dimacs_text.specs.Grammar.{Listing, End, Ended, Refused, Reading, read, reading_of, reading_from, literals, literals_end, text_end, with_literal}
+use Rattle.dimacs_text.specs.Stands.{IsSolid, rest_at, closed}
+use Rattle.dimacs_text.specs.Plain.{token_in, tokens_after, kinds_of, is_literal_token, is_literal, IsPlain}
 use Rattle.dimacs_text.specs.declared.token.Token.{Token}
 use Rattle.dimacs_text.specs.declared.token.Token.TheVariants.{Ending, Literal, TooLarge, NoLiteral}
 use Rattle.dimacs_text.specs.declared.command.Command.{Command}
 use Rattle.dimacs_text.specs.declared.command.Command.TheVariants.{Clause}
 use Rattle.dimacs_text.specs.declared.refusal.Refusal.TheVariants.{NotPlain}
-use Rattle.dimacs_text.proofs.Walks.{IsApart, walk-keeps, elim_true}
+use Rattle.dimacs_text.proofs.Walks.{IsApart, elim_true}
+use Rattle.dimacs_text.proofs.Ends.{ended-short}
 use Rattle.dimacs_text.proofs.Literals.{after_token, rest-token, rest-blank}
 use Rattle.dimacs_text.proofs.Feed.{solid_push, whole_reading}
 
@@ -32,11 +33,13 @@ abbrev EndsBy : LimitNumbers → ℕ → List ℕ → List Token → Type 0
 EndsBy limits place text kinds = (commands : List Command) (in_clause : Bool) (l : Listing) → (in_clause ≡ false → l.lits ≡ [])
     → (rest_at true limits place commands in_clause l text).end ≡ end_of limits.lits in_clause l.count kinds
 
+-- nothing is left of the text
 ends_by_none : (limits : LimitNumbers) (place : ℕ) → EndsBy limits place [] []
 unfolding rest_at reading_from closed literals walk literals_end text_end
 ends_by_none limits place commands true l fresh = refl
 ends_by_none limits place commands false l fresh = refl
 
+-- a blank is passed
 ends_by_blank : (limits : LimitNumbers) (place b : ℕ) (text : List ℕ) (kinds : List Token) → is_blank b ≡ true → EndsBy limits (suc place) text kinds → EndsBy limits place (b ∷ text) kinds
 ends_by_blank limits place b text kinds h rest commands in_clause l fresh = ap (λ r. r.end) (rest-blank true limits place commands in_clause l b text h) ∙ rest commands in_clause l fresh
 
@@ -79,17 +82,20 @@ ends_by_text limits (b ∷ bs) run place solid = go (is_blank b) refl run solid 
     go false e run solid again = λ commands in_clause l fresh.
         ap (λ t. (rest_at true limits place commands in_clause l t).end) (sym (append_assoc run (b ∷ []) bs)) ∙ again (run ++ b ∷ []) place (solid_push run b solid e) commands in_clause l fresh
 
-read-end : (limits : LimitNumbers) (text : List ℕ) → (read true limits text).end ≡ end_of limits.lits false 0 (kinds_of limits.vars text)
+-- a whole text ends by the kinds of its tokens
+whole-end : (limits : LimitNumbers) (text : List ℕ) → (read true limits text).end ≡ end_of limits.lits false 0 (kinds_of limits.vars text)
 unfolding read rest_at
-read-end limits text = ends_by_text limits text [] 0 tt [] false (record { lits = []; count = 0 }) (λ _. refl)
+whole-end limits text = ends_by_text limits text [] 0 tt [] false (record { lits = []; count = 0 }) (λ _. refl)
 
 -- the last kind is an ending zero exactly where no clause is open
 abbrev Matches : Bool → Option Token → Type 0
 Matches in_clause last = IfSome last (λ kind. kind ≡ Ending) ↔ (in_clause ≡ false)
 
+-- behind an ending zero
 closed_matches : Matches false (Some Ending)
 closed_matches = (λ _. refl, λ _. refl)
 
+-- behind a literal
 open_matches : (lit : Lit) → Matches true (Some (Literal lit))
 open_matches lit = (λ e. cc, λ e. cc)
 
@@ -99,9 +105,11 @@ record EndsWell (lits count : ℕ) (last : Option Token) (kinds : List Token) : 
   few : count + count_by is_literal kinds ≤ lits
   ended : IfSome (last_or last kinds) (λ kind. kind ≡ Ending)
 
+-- a literal counts one
 count_by-literal : (lit : Lit) (kinds : List Token) → count_by is_literal (Literal lit ∷ kinds) ≡ 1 + count_by is_literal kinds
 count_by-literal lit kinds = sum_by-cons (λ kind. cond (is_literal kind) 1 0) (Literal lit) kinds
 
+-- the tokens of a text that ends end it well
 ended-well : (lits count : ℕ) (in_clause : Bool) (last : Option Token) (kinds : List Token) → count ≤ lits → Matches in_clause last → end_of lits in_clause count kinds ≡ Ended → EndsWell lits count last kinds
 ended-well lits count true last [] few matches e = cc
 ended-well lits count false last [] few matches e = record { tokens = refl; few = omega arith; ended = matches.1 refl }
@@ -119,6 +127,7 @@ ended-well lits count in_clause last (Literal lit ∷ kinds) few matches e = go 
 ended-well lits count in_clause last (TooLarge ∷ kinds) few matches e = cc
 ended-well lits count in_clause last (NoLiteral ∷ kinds) few matches e = cc
 
+-- a text ends that its tokens end well
 well-ended : (lits count : ℕ) (in_clause : Bool) (last : Option Token) (kinds : List Token) → Matches in_clause last → EndsWell lits count last kinds → end_of lits in_clause count kinds ≡ Ended
 well-ended lits count true last [] matches well = let e = matches.0 well.ended in cc
 well-ended lits count false last [] matches well = refl
@@ -131,69 +140,12 @@ well-ended lits count in_clause last (Literal lit ∷ kinds) matches well =
 well-ended lits count in_clause last (TooLarge ∷ kinds) matches well = let e = well.tokens in cc
 well-ended lits count in_clause last (NoLiteral ∷ kinds) matches well = let e = well.tokens in cc
 
--- a front of a text has no end
-abbrev IsNoEnd : End → Type 0
-IsNoEnd Ended = ⊥
-IsNoEnd (Refused why) = Unit {0}
-IsNoEnd Open = Unit {0}
-
-abbrev HasNoEnd : Literals → Type 0
-HasNoEnd (Listed l after) = Unit {0}
-HasNoEnd (Broken end) = IsNoEnd end
-
-front_literals : (limits : LimitNumbers) (place : ℕ) (l : Listing) (text : List ℕ) → HasNoEnd (literals false limits place l text)
-unfolding literals literals_end literal_turn literal_met
-front_literals limits place l text =
-    walk-keeps (literal_turn false limits) (literals_end false) (λ a r. HasNoEnd r) (λ p a. tt)
-    (λ p a t on h. judged (is_judged false t) (p + length (word t)) a (literal_token limits.vars (word t)) on h) text place place l
-  where
-    met : (after : ℕ) (a : Listing) (t : Token) (on : ℕ → Listing → Literals) → ((n : ℕ) (a' : Listing) → HasNoEnd (on n a')) → HasNoEnd (turned (literal_met limits after a t) on)
-    met after a Ending on h = tt
-    met after a (Literal lit) on h = go (nat_lt a.count limits.lits)
-      where
-        go : (v : Bool) → HasNoEnd (turned (elim v as (λ _. Turn Listing Literals) [ true ↦ Next after (with_literal a lit) | false ↦ Stop (Broken (Refused NotPlain)) ]) on)
-        go true = h after (with_literal a lit)
-        go false = tt
-    met after a TooLarge on h = tt
-    met after a NoLiteral on h = tt
-
-    judged : (v : Bool) (after : ℕ) (a : Listing) (t : Token) (on : ℕ → Listing → Literals) → ((n : ℕ) (a' : Listing) → HasNoEnd (on n a'))
-        → HasNoEnd (turned (elim v as (λ _. Turn Listing Literals) [ true ↦ literal_met limits after a t | false ↦ Stop (Broken Open) ]) on)
-    judged true after a t on h = met after a t on h
-    judged false after a t on h = tt
-
-front-end : (limits : LimitNumbers) (text : List ℕ) → IsNoEnd (read false limits text).end
-unfolding read reading_from phrase text_end
-front-end limits text =
-    walk-keeps (phrase false limits) (text_end false) (λ a r. IsNoEnd r.end) (λ p a. tt)
-    (λ p a t on h. met a.commands (literals false limits p (listing_of a) t) (front_literals limits p (listing_of a) t) on h) text 0 0 nothing_read
-  where
-    met : (commands : List Command) (r : Literals) → HasNoEnd r → (on : ℕ → Sofar → Reading) → ((n : ℕ) (a' : Sofar) → IsNoEnd (on n a').end) → IsNoEnd (turned (clause_turn commands r) on).end
-    met commands (Listed l after) none on h = h after (with_clause commands l)
-    met commands (Broken end) none on h = none
-
--- a text that ends is short enough
-ended-short : (limits : LimitNumbers) (text : List ℕ) → (reading_of limits text).end ≡ Ended → length text ≤ limits.input
-unfolding reading_of
-ended-short limits text e = go (nat_le (length text) limits.input) refl e
-  where
-    front : Reading
-    front = read false limits (take limits.input text)
-
-    cut : (end : End) → front.end ≡ end → IsNoEnd end → (cut_off front end).end ≡ Ended → ⊥
-    cut Ended f none h = none
-    cut (Refused why) f none h = let g : Refused why ≡ Ended = sym f ∙ h in cc
-    cut Open f none h = cc
-
-    go : (v : Bool) → nat_le (length text) limits.input ≡ v → (elim v as (λ _. Reading) [ true ↦ read true limits text | false ↦ cut_off front front.end ]).end ≡ Ended → length text ≤ limits.input
-    go true l h = leb-true _ _ l
-    go false l h = absurd (cut front.end refl (front-end limits (take limits.input text)) h)
-
+-- A text ends, and is not refused, exactly where it is plain.
 pub ended_is_plain : (limits : LimitNumbers) (text : List ℕ) → ((reading_of limits text).end ≡ Ended) ↔ IsPlain limits text
 ended_is_plain limits text = (to, from)
   where
     whole : length text ≤ limits.input → (reading_of limits text).end ≡ end_of limits.lits false 0 (kinds_of limits.vars text)
-    whole short = ap (λ r. r.end) (whole_reading limits text short) ∙ read-end limits text
+    whole short = ap (λ r. r.end) (whole_reading limits text short) ∙ whole-end limits text
 
     nothing_matches : Matches false None
     nothing_matches = (λ _. refl, λ _. tt)

@@ -37,6 +37,7 @@ pub data Literals : Type 0 where
   Listed : Listing → ℕ → Literals
   Broken : End → Literals
 
+-- an open clause with a literal more
 abbrev pub with_literal : Listing → Lit → Listing
 with_literal l lit = record { lits = l.lits ++ lit ∷ []; count = suc l.count }
 
@@ -63,12 +64,15 @@ literals_end false place l = Broken Open
 unfoldable pub literals : Bool → LimitNumbers → ℕ → Listing → List ℕ → Literals
 literals whole limits place l text = walk (literal_turn whole limits) (literals_end whole) place place l text
 
+-- a clause opens
 abbrev pub listing_of : Sofar → Listing
 listing_of s = record { lits = []; count = s.count }
 
+-- a clause is closed
 abbrev pub with_clause : List Command → Listing → Sofar
 with_clause commands l = record { commands = commands ++ Clause l.lits ∷ []; count = l.count }
 
+-- what the literals of a clause lead to
 abbrev pub clause_turn : List Command → Literals → Turn Sofar Reading
 clause_turn commands (Listed l after) = Next after (with_clause commands l)
 clause_turn commands (Broken end) = Stop (record { commands = commands; end = end })
@@ -86,6 +90,7 @@ text_end false place s = record { commands = s.commands; end = Open }
 unfoldable pub reading_from : Bool → LimitNumbers → ℕ → Sofar → List ℕ → Reading
 reading_from whole limits place s text = walk (phrase whole limits) (text_end whole) place place s text
 
+-- before the first phrase
 abbrev pub nothing_read : Sofar
 nothing_read = record { commands = []; count = 0 }
 

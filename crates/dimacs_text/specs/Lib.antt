@@ -2,6 +2,8 @@ pub mod Walk
 pub mod Tokens
 pub mod Grammar
 pub mod Steps
+pub mod Commands
+pub mod Stands
 pub mod Reads
 pub mod Texts
 pub mod Plain

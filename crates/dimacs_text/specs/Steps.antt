@@ -14,6 +14,7 @@ use Rattle.dimacs_text.specs.declared.refusal.ReadError.TheVariants.{Refused, Me
 use Rattle.dimacs_text.specs.declared.refusal.Refusal.{Refusal}
 use Rattle.dimacs_text.specs.declared.refusal.Refusal.TheVariants.{NotPlain}
 
+-- the first byte of a number
 abbrev pub first_digit : Bool → ℕ → Word
 first_digit negative b = elim (is_digit b) [ true ↦ Digits negative (b - 48) | false ↦ NoNumber ]
 
@@ -75,10 +76,12 @@ at_end (Fails why cs) = Fails why cs
 unfoldable pub end_step : State → Step
 end_step s = at_end (word_step s s.word)
 
+-- a call went on as the step says
 abbrev pub GoesTo : State → List Command → List Command → Step → Type 0
 GoesTo new before now (Goes s cs) = (new ≡ s) × (now ≡ before ++ cs)
 GoesTo new before now (Fails why cs) = ⊥
 
+-- a call refused the text as the step says
 abbrev pub FailsAs : Refusal → List Command → List Command → Step → Type 0
 FailsAs refusal before now (Goes s cs) = ⊥
 FailsAs refusal before now (Fails why cs) = (refusal ≡ why) × (now ≡ before ++ cs)

@@ -7,5 +7,4 @@ ghost use Rattle.dimacs_text.specs.Plain.{IsPlain};
 pub fn plain_texts()
     ensures { (limits : LimitNumbers) (text : List ℕ)
         → ((reading_of limits text).end ≡ Ended) ↔ IsPlain limits text }
-{
-}
+{}

@@ -38,7 +38,7 @@ impl Reader {
     /// Reads the next piece of the text, and appends the commands that the text so far decides.
     ///
     /// `Refused` comes where the text is refused within the piece, however it goes on; the commands
-    /// before that place are appended. After an error the reader answers it again and again.
+    /// before that place are appended. After an error the reader answers that error from then on.
     pub fn feed(&mut self, piece: &[u8], to: &mut Commands) -> Result<(), ReadError>
         ensures ok { OnOk result (Gives self.old self.new piece.now to.old to.new) }
         ensures refused { (why : Refusal)
@@ -98,68 +98,18 @@ mod tests {
     use std::test::Fail;
 
     /// A text in two pieces, the limit on literals, and what is read of it.
-    struct Row {
-        pieces: [&'static str; 2],
-        lits: u64,
-        read: &'static str,
-    }
-
-    const ROWS: [Row; 11] = [
-        Row {
-            pieces: ["1 2", " 0"],
-            lits: 9,
-            read: "1 2 0 end",
-        },
-        Row {
-            pieces: ["1 -2", "3 0"],
-            lits: 9,
-            read: "1 -23 0 end",
-        },
-        Row {
-            pieces: ["1 2", ""],
-            lits: 9,
-            read: "refused",
-        },
-        Row {
-            pieces: ["1 a 0", ""],
-            lits: 9,
-            read: "refused",
-        },
-        Row {
-            pieces: ["16777216 0", ""],
-            lits: 9,
-            read: "refused",
-        },
-        Row {
-            pieces: ["-0", ""],
-            lits: 9,
-            read: "refused",
-        },
-        Row {
-            pieces: ["1 0\n", "p cnf 1 1"],
-            lits: 9,
-            read: "1 0 refused",
-        },
-        Row {
-            pieces: ["1 2 0 1 ", "2 0"],
-            lits: 3,
-            read: "1 2 0 refused",
-        },
-        Row {
-            pieces: ["", ""],
-            lits: 9,
-            read: "end",
-        },
-        Row {
-            pieces: ["00", ""],
-            lits: 9,
-            read: "0 end",
-        },
-        Row {
-            pieces: ["\t1\n2\x0b3\x0c4", "\r5 0"],
-            lits: 9,
-            read: "1 2 3 4 5 0 end",
-        },
+    const ROWS: [(&str, &str, u64, &str); 11] = [
+        ("1 2", " 0", 9, "1 2 0 end"),
+        ("1 -2", "3 0", 9, "1 -23 0 end"),
+        ("1 2", "", 9, "refused"),
+        ("1 a 0", "", 9, "refused"),
+        ("16777216 0", "", 9, "refused"),
+        ("-0", "", 9, "refused"),
+        ("1 0\n", "p cnf 1 1", 9, "1 0 refused"),
+        ("1 2 0 1 ", "2 0", 3, "1 2 0 refused"),
+        ("", "", 9, "end"),
+        ("00", "", 9, "0 end"),
+        ("\t1\n2\x0b3\x0c4", "\r5 0", 9, "1 2 3 4 5 0 end"),
     ];
 
     fn read_pieces(
@@ -173,15 +123,12 @@ mod tests {
         reader.finish(to)
     }
 
-    /// The clauses that came of the row's pieces, and how the reading ended.
-    fn read(alloc: Global, row: &Row) -> Result<String, AllocError> {
+    /// The clauses that came of the pieces, and how the reading ended.
+    fn read(alloc: Global, limits: Limits, pieces: &[&str]) -> Result<String, AllocError> {
         let mut text = String::new(alloc);
-        let Some(limits) = Limits::new(16_777_215, row.lits, 1, 2_147_483_648) else {
-            return Ok(text);
-        };
         let mut reader = Reader::new(alloc, limits);
         let mut commands = Commands::new(alloc);
-        let ended = read_pieces(&mut reader, &row.pieces, &mut commands);
+        let ended = read_pieces(&mut reader, pieces, &mut commands);
         while let Some(Command::Clause(lits)) = commands.take_first() {
             for lit in lits.as_slice() {
                 let sign = if lit.negative { "-" } else { "" };
@@ -199,9 +146,10 @@ mod tests {
 
     #[test]
     fn reads_plain_texts(rt: HostRuntime) -> Result<(), Fail> {
-        for row in &ROWS {
-            let text = read(rt.alloc(), row)?;
-            assert_eq!(rt; text.as_str(), row.read);
+        for (first, second, lits, expected) in &ROWS {
+            let limits = Limits::new(16_777_215, *lits, 1, 2_147_483_648).ok_or("limits")?;
+            let text = read(rt.alloc(), limits, &[*first, *second])?;
+            assert_eq!(rt; text.as_str(), *expected);
         }
         Ok(())
     }
