@@ -1,0 +1,6 @@
+pub mod Formulas
+pub mod Verdicts
+pub mod Carried
+pub mod Refusals
+pub mod Errors
+pub mod Ran

@@ -1,0 +1,5 @@
+pub mod Questions
+pub mod Progress
+pub mod Errors
+pub mod Writing
+pub mod Runs

@@ -1,0 +1,98 @@
+ghost use Rattle.std.specs.Prelude.{◌≡◌, ◌≢◌, ◌<◌, ◌≤◌, ◌++◌, ℕ, List, Some, Err, length, OnOk};
+ghost use Rattle.sat_lits.specs.Limits.{standard_limits};
+ghost use Rattle.sat_api.specs.State.{unanswered};
+ghost use Rattle.sat_ports.specs.Causes.{Rose};
+ghost use Rattle.dimacs_text.specs.Grammar.{Refused, reading_of};
+ghost use Rattle.dimacs_text.specs.declared.refusal.Refusal.{Refusal as Why};
+ghost use Rattle.sat_tool.specs.Errors.{unread_for};
+ghost use Rattle.sat_tool.specs.Questions.{nothing_yet};
+ghost use Rattle.sat_tool.specs.Progress.{HasCarried, HasCarriedAll, ReadsAll, ReadsRefusal};
+
+use crate::carry::carry_out_all;
+use crate::stop::Unread;
+use dimacs_text::{Commands, ReadError, Reader};
+use sat_api::SatSolver;
+use sat_lits::Limits;
+use sat_ports::Source;
+use std::alloc::Global;
+
+/// Takes one piece of the text, and carries out what it decides.
+fn take_piece(
+    alloc: Global,
+    reader: &mut Reader,
+    piece: &[u8],
+    solver: &mut SatSolver,
+) -> Result<(), ReadError>
+    requires { (text : List ℕ) × HasCarried text reader.old solver.old }
+    ensures ok { OnOk result ((text : List ℕ) → HasCarried text reader.old solver.old → HasCarried (text ++ piece.now) reader.new solver.new) }
+    ensures refused { (why : Why) → result ≡ Err (ReadError.Refused why) → (text : List ℕ) → HasCarried text reader.old solver.old
+        → (rest : List ℕ) → (reading_of standard_limits ((text ++ piece.now) ++ rest)).end ≡ Refused why }
+{
+    let mut commands = Commands::new(alloc);
+    match reader.feed(piece, &mut commands) {
+        Ok(()) => match carry_out_all(solver, &mut commands) {
+            Ok(()) => Ok(()),
+            Err(_) => Err(ReadError::Memory),
+        },
+        Err(error) => Err(error),
+    }
+}
+
+/// The text ends here.
+fn take_end(alloc: Global, reader: &mut Reader, solver: &mut SatSolver) -> Result<(), ReadError>
+    requires { (text : List ℕ) × HasCarried text reader.old solver.old }
+    ensures ok { OnOk result ((text : List ℕ) → HasCarried text reader.old solver.old → HasCarriedAll text solver.new) }
+    ensures refused { (why : Why) → result ≡ Err (ReadError.Refused why) → (text : List ℕ) → HasCarried text reader.old solver.old
+        → (reading_of standard_limits text).end ≡ Refused why }
+{
+    let mut commands = Commands::new(alloc);
+    match reader.finish(&mut commands) {
+        Ok(()) => match carry_out_all(solver, &mut commands) {
+            Ok(()) => Ok(()),
+            Err(_) => Err(ReadError::Memory),
+        },
+        Err(error) => Err(error),
+    }
+}
+
+fn unread_for(error: ReadError) -> Unread
+    ensures { result ≡ unread_for error }
+{
+    match error {
+        ReadError::Refused(why) => Unread::Refused(why),
+        ReadError::Memory => Unread::Memory,
+    }
+}
+
+/// Reads the source to its end, piece by piece, and carries out the text's commands.
+pub fn read_formula<S: Source>(
+    alloc: Global,
+    source: &mut S,
+    piece: &mut [u8],
+    solver: &mut SatSolver,
+) -> Result<(), Unread>
+    requires room { 0 < length piece.old }
+    requires fresh { solver.old ≡ unanswered nothing_yet standard_limits }
+    ensures ok { OnOk result (ReadsAll (S.left source.old) (S.left source.new) solver.new) }
+    ensures refused { (why : Why) → result ≡ Err (Unread.Refused why) → ReadsRefusal (S.left source.old) (S.left source.new) why }
+    ensures fault { result ≡ Err Unread.Fault → Rose (S.faults source.old) (S.faults source.new) }
+    ensures kept { result ≢ Err Unread.Fault → S.faults source.new ≡ S.faults source.old }
+{
+    let mut reader = Reader::new(alloc, Limits::standard());
+    let mut taken: u64 = 0;
+    'reading: loop {
+        match source.read(piece) {
+            Err(_) => return Err(Unread::Fault),
+            Ok(0) => {
+                return match take_end(alloc, &mut reader, solver) {
+                    Ok(()) => Ok(()),
+                    Err(error) => Err(unread_for(error)),
+                };
+            }
+            Ok(count) => match take_piece(alloc, &mut reader, &piece[..count], solver) {
+                Ok(()) => taken += count as u64,
+                Err(error) => return Err(unread_for(error)),
+            },
+        }
+    }
+}

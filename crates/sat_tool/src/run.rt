@@ -1,0 +1,84 @@
+ghost use Rattle.std.specs.Prelude.{◌≡◌, IfOk, IfErr, length};
+ghost use Rattle.sat_lits.specs.Limits.{standard_limits};
+ghost use Rattle.sat_api.specs.State.{unanswered};
+ghost use Rattle.sat_tool.specs.Questions.{nothing_yet};
+ghost use Rattle.sat_tool.specs.Writing.{port};
+ghost use Rattle.sat_tool.specs.Runs.{AnswersText, StopsRight, RunsRight, status_of};
+
+use crate::answer::{answer, refuse};
+use crate::read::read_formula;
+use crate::stop::{Stop, Unread};
+use sat_api::{Answer, SatSolver};
+use sat_ports::{Alarm, Sink, Source};
+use std::alloc::Global;
+use std::thread::Threads;
+
+/// The size of one read, in bytes.
+const PIECE: usize = 65536;
+
+/// Reads the text, answers the question at its end, and writes the answer or the refusal.
+fn serve<R: Threads + Sync, S: Source, K: Sink, A: Alarm + Send>(
+    rt: &R,
+    alloc: Global,
+    source: &mut S,
+    sink: &mut K,
+    alarm: &mut A,
+    solver: &mut SatSolver,
+) -> Result<Answer, Stop>
+    requires { solver.old ≡ unanswered nothing_yet standard_limits }
+    ensures ok { IfOk result (λ a. AnswersText a (port (S.left source.old) (S.faults source.old)) (port (S.left source.new) (S.faults source.new))
+        (port (K.written sink.old) (K.faults sink.old)) (port (K.written sink.new) (K.faults sink.new)) solver.new) }
+    ensures err { IfErr result (λ stop. StopsRight stop (port (S.left source.old) (S.faults source.old)) (port (S.left source.new) (S.faults source.new))
+        (port (K.written sink.old) (K.faults sink.old)) (port (K.written sink.new) (K.faults sink.new))) }
+{
+    let Ok(mut piece) = Vec::from_elem(alloc, 0u8, PIECE) else {
+        return Err(Stop::Memory);
+    };
+    match read_formula(alloc, source, &mut piece, solver) {
+        Ok(()) => answer(rt, alloc, sink, alarm, solver),
+        Err(Unread::Fault) => Err(Stop::Read),
+        Err(Unread::Refused(why)) => Err(refuse(alloc, sink, why)),
+        Err(Unread::Memory) => Err(Stop::Memory),
+    }
+}
+
+fn status_of(answer: Answer) -> u8
+    ensures { result ≡ status_of answer }
+{
+    match answer {
+        Answer::Sat => 10,
+        Answer::Unsat => 20,
+    }
+}
+
+/// Does all that the program does, and answers its status.
+///
+/// The source is read to its end as a plain DIMACS text: clauses of literals, each ended by 0. Its
+/// formula is given to the solver, which is asked once, with no assumptions, and the verdict is
+/// written to the sink.
+///
+/// The status is 10 where the formula is satisfiable and 20 where it is not. It is 1 exactly where
+/// there is a word, and then nothing is read or written; 2 where the text is not plain, which is
+/// written; 3 where a read failed and 4 where a write failed; 5 for want of memory. Before a status
+/// of 3 or 5 nothing is written, and before 4 a front of what is to be written.
+pub fn run<R: Threads + Sync, S: Source, K: Sink, A: Alarm + Send>(
+    rt: &R,
+    alloc: Global,
+    words: &[&str],
+    source: &mut S,
+    sink: &mut K,
+    alarm: &mut A,
+    solver: &mut SatSolver,
+) -> u8
+    requires { solver.old ≡ unanswered nothing_yet standard_limits }
+    ensures { RunsRight (length words.now) result (port (S.left source.old) (S.faults source.old)) (port (S.left source.new) (S.faults source.new))
+        (port (K.written sink.old) (K.faults sink.old)) (port (K.written sink.new) (K.faults sink.new)) solver.new }
+{
+    if !words.is_empty() {
+        return 1;
+    }
+    match serve(rt, alloc, source, sink, alarm, solver) {
+        Ok(answer) => status_of(answer),
+        Err(stop) => stop.status(),
+    }
+}

@@ -1,0 +1,56 @@
+ghost use Rattle.std.specs.Prelude.{◌≡◌, OnOk, OnErr};
+ghost use Rattle.std.specs.Io.KnownBytes.{Appends};
+ghost use Rattle.sat_ports.specs.Causes.{HasCause};
+ghost use Rattle.sat_ports.specs.Writes.{AppendsFront};
+ghost use Rattle.dimacs_text.specs.Texts.{text_of_verdict, text_of_refusal};
+ghost use Rattle.sat_tool.specs.Writing.{port, WritesText};
+
+use crate::stop::Halt;
+use dimacs_text::{Refusal, print_refusal, print_verdict};
+use sat_lits::{List, Verdict};
+use sat_ports::{Failed, Sink};
+use std::alloc::Global;
+
+/// Writes all of the bytes, or up to where a write failed.
+fn write_all<K: Sink>(sink: &mut K, bytes: &[u8]) -> Result<(), Failed>
+    ensures ok { OnOk result (Appends (K.written sink.old) (K.written sink.new) bytes.now) }
+    ensures err { OnErr result (AppendsFront (K.written sink.old) (K.written sink.new) bytes.now) }
+    ensures cause { HasCause (K.faults sink.old) (K.faults sink.new) result }
+{
+    let mut at = 0;
+    while at < bytes.len() {
+        match sink.write(&bytes[at..]) {
+            Ok(count) => at += count,
+            Err(failed) => return Err(failed),
+        }
+    }
+    Ok(())
+}
+
+/// Writes the text of a verdict.
+pub fn write_verdict<K: Sink>(alloc: Global, sink: &mut K, verdict: &Verdict) -> Result<(), Halt>
+    ensures { WritesText (text_of_verdict verdict.now) result (port (K.written sink.old) (K.faults sink.old)) (port (K.written sink.new) (K.faults sink.new)) }
+{
+    let mut text = List::new(alloc);
+    match print_verdict(&mut text, verdict) {
+        Ok(()) => match write_all(sink, text.as_slice()) {
+            Ok(()) => Ok(()),
+            Err(_) => Err(Halt::Write),
+        },
+        Err(_) => Err(Halt::Memory),
+    }
+}
+
+/// Writes the text of a refusal.
+pub fn write_refusal<K: Sink>(alloc: Global, sink: &mut K, why: &Refusal) -> Result<(), Halt>
+    ensures { WritesText (text_of_refusal why.now) result (port (K.written sink.old) (K.faults sink.old)) (port (K.written sink.new) (K.faults sink.new)) }
+{
+    let mut text = List::new(alloc);
+    match print_refusal(&mut text, why) {
+        Ok(()) => match write_all(sink, text.as_slice()) {
+            Ok(()) => Ok(()),
+            Err(_) => Err(Halt::Write),
+        },
+        Err(_) => Err(Halt::Memory),
+    }
+}
