@@ -4,13 +4,8 @@ use Rattle.std.proofs.Math.ListN.{replicate}
 use Rattle.std.proofs.Math.Nat.{eq-or-lt_of_le}
 use Rattle.std.proofs.lemmas.Bool.{true≢false}
 use Rattle.sat_lits.specs.Meaning.{Problem, IsModel}
-use Rattle.sat_api.specs.Counting.{number_of}
-use Rattle.sat_api.specs.Answers.{HasNoModel}
+use Rattle.sat_api.specs.Counting.{number_of, HasNoModel, HasNoModelBelow}
 use Rattle.sat_api.proofs.Counts.{number_of-bound, number_of-replicate, number_of_injective}
-
--- no assignment of a lower number is a model
-abbrev pub HasNoModelBelow : Problem → ℕ → Type 0
-HasNoModelBelow f number = (values : List Bool) → number_of values < number → IsModel f values → ⊥
 
 -- at first nothing is passed
 pub HasNoModelBelow-first : (f : Problem) (values : List Bool) (n : ℕ) → values ≡ replicate n false → HasNoModelBelow f (number_of values)
@@ -20,7 +15,8 @@ HasNoModelBelow-first f values n digits other below model = absurd (omega (arith
 pub HasNoModelBelow-next : (f : Problem) (values : List Bool) (next : ℕ) → length values ≡ f.vars
     → HasNoModelBelow f (number_of values) → (IsModel f values → IsTrue false) → next ≡ number_of values + 1 → HasNoModelBelow f next
 HasNoModelBelow-next f values next whole passed fails more other below model =
-    elim (eq-or-lt_of_le (let most : number_of other ≤ number_of values = omega arith in most)) [
+    let most : number_of other ≤ number_of values = omega arith in
+    elim (eq-or-lt_of_le most) [
       | inl same ↦ true≢false (sym (fails (subst (IsModel f) (number_of_injective other values (model.whole ∙ sym whole) same) model)))
       | inr lower ↦ passed other lower model
     ]

@@ -8,10 +8,6 @@ use Rattle.sat_api.specs.declared.solver.Answer.{Answer}
 use Rattle.sat_api.specs.declared.solver.Answer.TheVariants.{Sat, Unsat}
 use Rattle.sat_api.specs.State.{SolverState}
 
--- nothing satisfies every item
-abbrev pub HasNoModel : Problem → Type 0
-HasNoModel f = (values : List Bool) → IsModel f values → ⊥
-
 -- the literal that is true where this one is false
 abbrev pub negated : Lit → Lit
 negated l = record { var = l.var; negative = not l.negative }

@@ -4,7 +4,7 @@ ghost use Rattle.sat_lits.specs.declared.formula.Item.TheVariants.{Clause};
 ghost use Rattle.sat_lits.specs.Limits.{standard_limits};
 ghost use Rattle.sat_lits.specs.Meaning.{IsModel, Follows};
 ghost use Rattle.sat_lits.specs.Formulas.{with_vars, with_item, first_unknown, numbers_of, lit_count};
-ghost use Rattle.sat_api.specs.State.{unanswered};
+ghost use Rattle.sat_api.specs.State.{unanswered, Keeps};
 ghost use Rattle.sat_api.specs.Answers.{Answers, Decides};
 
 use crate::error::ApiError;
@@ -112,8 +112,7 @@ impl SatSolver {
         ensures answers { IfOk result (Answers self.old self.new assumptions.now) }
         ensures decided { IfOk result (Decides self.old.problem assumptions.now) }
 
-        ensures problem { self.new.problem ≡ self.old.problem }
-        ensures limits { self.new.limits ≡ self.old.limits }
+        ensures keeps { Keeps self.old self.new }
         ensures raises { A.raises alarm.new ≡ A.raises alarm.old }
 
         ensures only { IfErr result (λ e. e ≡ ApiError.Memory) }
