@@ -13,5 +13,5 @@ mod verdict;
 pub use formula::{Formula, FormulaError, Item};
 pub use limits::Limits;
 pub use list::{List, NoMemory};
-pub use literal::{Lit, Var};
+pub use literal::{ClauseId, InLit, Inner, Lit, Own, OwnLit, Var};
 pub use verdict::Verdict;

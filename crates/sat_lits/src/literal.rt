@@ -8,3 +8,29 @@ pub struct Lit {
     pub var: Var,
     pub negative: bool,
 }
+
+/// A variable of one solver, by its own number from 0, in order of creation.
+#[derive(Clone, Copy, Debug, PartialEq, Eq, PartialOrd, Ord)]
+pub struct Own(pub u32);
+
+/// A literal of one solver's own variable, ordered as `Lit`.
+#[derive(Clone, Copy, Debug, PartialEq, Eq, PartialOrd, Ord)]
+pub struct OwnLit {
+    pub var: Own,
+    pub negative: bool,
+}
+
+/// A variable that a solver's clauses hold now, by a packed number from 0.
+#[derive(Clone, Copy, Debug, PartialEq, Eq, PartialOrd, Ord)]
+pub struct Inner(pub u32);
+
+/// A literal of a packed variable, ordered as `Lit`.
+#[derive(Clone, Copy, Debug, PartialEq, Eq, PartialOrd, Ord)]
+pub struct InLit {
+    pub var: Inner,
+    pub negative: bool,
+}
+
+/// Names a clause of one store.
+#[derive(Clone, Copy, Debug, PartialEq, Eq, PartialOrd, Ord)]
+pub struct ClauseId(pub u64);
