@@ -5,6 +5,7 @@
 //! one has raised that number. So code that is generic over a trait cannot make up a failure.
 #![tactic(auto)]
 
+mod failure;
 mod memory;
 mod standard;
 
@@ -15,12 +16,9 @@ ghost use Rattle.std.specs.Io.KnownBytes.{ReadConsumes};
 ghost use Rattle.sat_ports.specs.Causes.{Rose, HasCause};
 ghost use Rattle.sat_ports.specs.Writes.{Advances, WritesFront};
 
+pub use failure::Failed;
 pub use memory::{BytesSink, BytesSource, PlainSource, Silent};
 pub use standard::{StdSink, StdSource};
-
-/// A read or a write failed.
-#[derive(Clone, Copy, Debug, PartialEq, Eq)]
-pub struct Failed;
 
 /// Where bytes come from.
 pub trait Source {

@@ -5,6 +5,7 @@ ghost use Rattle.sat_ports.specs.Causes.{Rose, HasCause};
 ghost use Rattle.sat_ports.specs.Writes.{Advances, WritesFront};
 ghost use Rattle.sat_ports.specs.Forms.{Pieces, Shelf, is_listed, is_refused, fitting};
 
+use crate::failure::count_failure;
 use crate::{Alarm, Failed, Sink, Source};
 use sat_lits::NoMemory;
 use std::alloc::Global;
@@ -102,8 +103,7 @@ impl<'a> Source for BytesSource<'a> {
         let call = self.calls;
         self.calls = call.saturating_add(1);
         if self.failing.contains(&call) {
-            self.faults = self.faults.saturating_add(1);
-            return Err(Failed);
+            return Err(count_failure(&mut self.faults));
         }
         let count = self.piece.min(into.len()).min(self.bytes.len());
         into[..count].copy_from_slice(&self.bytes[..count]);
@@ -183,8 +183,7 @@ impl Sink for BytesSink {
         let count = piece.len().min(self.room - self.bytes.len());
         let is_full = count == 0 && !piece.is_empty();
         if self.failing.contains(&call) || is_full {
-            self.faults = self.faults.saturating_add(1);
-            return Err(Failed);
+            return Err(count_failure(&mut self.faults));
         }
         self.bytes.extend_from_slice(&piece[..count]).unwrap();
         Ok(count)

@@ -1,6 +1,6 @@
-ghost use Rattle.std.specs.Prelude.{◌≡◌, ◌≤◌};
-ghost use Rattle.sat_ports.specs.Causes.{Rose};
+ghost use Rattle.std.specs.Prelude.{◌≡◌};
 
+use crate::failure::count_failure;
 use crate::{Failed, Sink, Source};
 use std::io::{Read, Write};
 use std::marker::Model;
@@ -48,7 +48,7 @@ impl<R: Read> Source for StdSource<R> {
                 into[..count].copy_from_slice(&piece[..count]);
                 Ok(count)
             }
-            Err(_) => Err(failed(&mut self.faults)),
+            Err(_) => Err(count_failure(&mut self.faults)),
         }
     }
 }
@@ -89,22 +89,13 @@ impl<W: Write> Sink for StdSink<W> {
     fn write(&mut self, piece: &[u8]) -> Result<usize, Failed> {
         let count = match self.writer.write(piece) {
             Ok(count) if 0 < count || piece.is_empty() => count,
-            _ => return Err(failed(&mut self.faults)),
+            _ => return Err(count_failure(&mut self.faults)),
         };
         match self.writer.flush() {
             Ok(()) => Ok(count),
-            Err(_) => Err(failed(&mut self.faults)),
+            Err(_) => Err(count_failure(&mut self.faults)),
         }
     }
-}
-
-/// Counts a failure.
-fn failed(faults: &mut u64) -> Failed
-    ensures later { faults.old ≤ faults.new }
-    ensures rose { Rose faults.old faults.new }
-{
-    *faults = faults.saturating_add(1);
-    Failed
 }
 
 #[cfg(test)]

@@ -6,6 +6,8 @@ mod carry;
 mod read;
 mod run;
 mod stop;
+#[cfg(test)]
+mod tests;
 mod write;
 
 use run::run;
