@@ -8,10 +8,12 @@ mod limits;
 mod list;
 mod literal;
 mod satisfaction;
+mod shared;
 mod verdict;
 
 pub use formula::{Formula, FormulaError, Item};
 pub use limits::Limits;
 pub use list::{List, NoMemory};
 pub use literal::{ClauseId, InLit, Inner, Lit, Own, OwnLit, Var};
+pub use shared::Shared;
 pub use verdict::Verdict;
