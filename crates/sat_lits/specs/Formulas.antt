@@ -40,3 +40,9 @@ pub record IsWithinLimits (f : Bounded) : Type 0 where
   pub few_vars : f.problem.vars ≤ f.limits.vars
   pub few_lits : lit_count f.problem.items ≤ f.limits.lits
   pub known : list_all (names_known f.problem.vars) f.problem.items ≡ true
+
+-- the new formula has the old one's items first, and no fewer variables
+pub record Extends (old new : Problem) : Type 0 where
+  pub vars : old.vars ≤ new.vars
+  pub more : List Item
+  pub items : new.items ≡ old.items ++ more

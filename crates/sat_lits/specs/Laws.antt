@@ -1,32 +1,13 @@
 -- Facts on literals, items and formulas that every crate above may cite.
 use Rattle.std.proofs.Common.{◌≡◌, ℕ, ◌+◌, ◌<◌, ◌≤◌, Bool, true, false, ◌&&◌, cond, List, [], ◌∷◌, ◌++◌, length, get_or, None, Some, nat_lt, nat_le, refl, sym, ◌∙◌, arith}
 use Rattle.std.specs.List.{list_all}
-use Rattle.std.proofs.lemmas.Bool.{and_parts, and_from, lt-ltb, ltb-true, leb-false}
-use Rattle.std.proofs.lemmas.List.Folds.{list_all-append, list_all_at}
+use Rattle.std.proofs.lemmas.Bool.{and_from, lt-ltb, ltb-true, leb-false}
 use Rattle.std.proofs.lemmas.List.Sums.{sum_by-append}
+pub use Rattle.sat_lits.specs.ListLaws.{all_mono, all_at, all_push}
 use Rattle.sat_lits.specs.Limits.{LimitNumbers}
 use Rattle.sat_lits.specs.Meaning.{Problem}
 use Rattle.sat_lits.specs.Formulas.{IsWithinLimits, names_known, numbers_of, first_unknown, lit_count, with_vars, with_item}
 use Rattle.sat_lits.specs.declared.formula.Item.{Item}
-
--- where each element that passes one test passes another
-pub all_mono : {X : Type 0} (p q : X → Bool) → ((x : X) → p x ≡ true → q x ≡ true) → (xs : List X) → list_all p xs ≡ true → list_all q xs ≡ true
-all_mono p q h [] e = refl
-all_mono p q h (x ∷ xs) e =
-    let a : (p x ≡ true) × (list_all p xs ≡ true) = and_parts _ _ e in
-    and_from _ _ (h x a.0) (all_mono p q h xs a.1)
-
--- the element at a place passes
-pub all_at : {X : Type 0} (p : X → Bool) (xs : List X) (i : ℕ) (d : X) → i < length xs → list_all p xs ≡ true → p (get_or xs i d) ≡ true
-all_at p xs i d h e = go (p (get_or xs i d)) refl
-  where
-    go : (v : Bool) → p (get_or xs i d) ≡ v → v ≡ true
-    go true k = refl
-    go false k = sym (list_all_at p xs i d h k) ∙ e
-
--- one element more passes
-pub all_push : {X : Type 0} (p : X → Bool) (xs : List X) (x : X) → list_all p xs ≡ true → p x ≡ true → list_all p (xs ++ x ∷ []) ≡ true
-all_push p xs x e h = list_all-append p xs (x ∷ []) ∙ and_from _ _ e (and_from _ _ h refl)
 
 -- a variable that is there stays there when variables are added
 pub names_known_more : (vars more : ℕ) (item : Item) → vars ≤ more → names_known vars item ≡ true → names_known more item ≡ true

@@ -4,4 +4,9 @@ pub mod Meaning
 pub mod Verdicts
 pub mod Formulas
 pub mod Kept
+pub mod Logs
+pub mod ListLaws
+pub mod ClauseLaws
 pub mod Laws
+pub mod FollowLaws
+pub mod LogLaws

@@ -4,6 +4,7 @@
 #![tactic(auto)]
 
 mod formula;
+pub mod laws;
 mod limits;
 mod list;
 mod literal;
