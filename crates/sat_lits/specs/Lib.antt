@@ -5,8 +5,11 @@ pub mod Verdicts
 pub mod Formulas
 pub mod Kept
 pub mod Logs
+pub mod Conflicts
 pub mod ListLaws
 pub mod ClauseLaws
 pub mod Laws
 pub mod FollowLaws
 pub mod LogLaws
+pub mod ParityLaws
+pub mod ConflictLaws

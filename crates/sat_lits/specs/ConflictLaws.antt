@@ -1,0 +1,54 @@
+-- Facts on the numbers of conflicts.
+use Rattle.std.proofs.Common.{◌≡◌, ◌⊎◌, ◌↔◌, inl, inr, ℕ, zero, suc, ◌+◌, ◌-◌, ◌*◌, ◌/◌, ◌^◌, ◌<◌, ◌≤◌, min, sum, map, refl, sym, ap, ◌∙◌, arith, add-one, ⊎_elim}
+use Rattle.std.specs.List.{range_with_len}
+use Rattle.std.proofs.Math.Nat.{mul_assoc, mul-suc, suc-mul}
+use Rattle.std.proofs.lemmas.Bool.{cases_lt}
+use Rattle.std.proofs.lemmas.List.FromFn.{sum_by-map-range_with_len_more}
+use Rattle.sat_lits.specs.Conflicts.{interval_len, intervals_len, intervals_for, IntervalsCount, LastIsLong}
+
+products : (n m : ℕ) → m ≡ suc n → 100 * suc m + 10 * suc m * m ≡ (100 * m + 10 * m * n) + (100 + 20 * m)
+products n m e =
+    let square : m * m ≡ m * n + m = ap (λ k. m * k) e ∙ mul-suc m n in
+    omega (arith, mul_assoc 10 (suc m) m, suc-mul m m, square, mul_assoc 10 m n)
+
+less_one : (n : ℕ) → suc n - 1 ≡ n
+less_one n = omega arith
+
+more : (n : ℕ) → intervals_len (suc n) ≡ intervals_len n + interval_len n
+more zero = refl
+more (suc n) = rw (less_one (suc n), less_one n) (products n (suc n) refl)
+
+-- the greatest of the intervals that count when there is no bound on their number
+short : (p q j k : ℕ) → q ≡ (p - 100 + 19) / 20 → j < k → k < q + 1 → 100 + 20 * j < p
+short p q j k e h l = omega arith
+
+long : (p q : ℕ) → q ≡ (p - 100 + 19) / 20 → p ≤ 100 + 20 * q
+long p q e = omega arith
+
+pub last_is_long : LastIsLong
+last_is_long n = go (3 ^ n) ((3 ^ n - 100 + 19) / 20) refl (cases_lt ((3 ^ n - 100 + 19) / 20) (2 ^ 20))
+  where
+    go : (p q : ℕ) → q ≡ (p - 100 + 19) / 20 → (q < 2 ^ 20) ⊎ (2 ^ 20 ≤ q) → (p ≤ interval_len (min (q + 1) (2 ^ 20) - 1)) ⊎ (min (q + 1) (2 ^ 20) - 1 ≡ 2 ^ 20 - 1)
+    go p q e (inl few) = inl (omega (arith, long p q e))
+    go p q e (inr many) = inr (omega arith)
+
+pub intervals_count : IntervalsCount
+intervals_count n k = (forth (3 ^ n) ((3 ^ n - 100 + 19) / 20) refl, back (3 ^ n) ((3 ^ n - 100 + 19) / 20) refl)
+  where
+    forth : (p q : ℕ) → q ≡ (p - 100 + 19) / 20 → k < min (q + 1) (2 ^ 20) → (k < 2 ^ 20) × ((j : ℕ) → j < k → interval_len j < p)
+    forth p q e h = (omega arith, λ j l. short p q j k e l (omega arith))
+
+    back : (p q : ℕ) → q ≡ (p - 100 + 19) / 20 → (k < 2 ^ 20) × ((j : ℕ) → j < k → interval_len j < p) → k < min (q + 1) (2 ^ 20)
+    back p q e (few, all) =
+        ⊎_elim
+        (λ (l : k < q + 1). omega arith)
+        (λ (l : q + 1 ≤ k). absurd (let under : interval_len q < p = all q (omega arith) in omega (arith, under, long p q e)))
+        (cases_lt k (q + 1))
+
+-- the closed form is the sum of the first lengths
+pub intervals_len_sum : (count : ℕ) → intervals_len count ≡ sum (map interval_len (range_with_len 0 count))
+intervals_len_sum zero = refl
+intervals_len_sum (suc count) =
+    more count
+    ∙ (ap (λ n. n + interval_len count) (intervals_len_sum count)
+    ∙ (sym (sum_by-map-range_with_len_more (λ n. n) interval_len 0 count count (omega arith)) ∙ ap (λ n. sum (map interval_len (range_with_len 0 n))) (add-one count)))
