@@ -1,8 +1,9 @@
 //! Laws on the definitions of this crate. Each is the contract of a function that does nothing.
 
-ghost use Rattle.std.specs.Prelude.{◌≡◌, ◌≢◌, ℕ, Bool, List, AllPairs, length, map, sum};
+ghost use Rattle.std.specs.Prelude.{◌≡◌, ◌≢◌, ℕ, Bool, List, ◌∷◌, AllPairs, length, map, sum};
 ghost use Rattle.std.specs.List.{range_with_len};
-ghost use Rattle.sat_lits.specs.Meaning.{is_odd};
+ghost use Rattle.sat_lits.specs.Truth.{signed};
+ghost use Rattle.sat_lits.specs.Meaning.{value_of, is_odd};
 ghost use Rattle.sat_lits.specs.Logs.{EachFollows, StaysLegal, FrontIsLegal, PushIsLegal};
 ghost use Rattle.sat_lits.specs.Conflicts.{AreOddVars, odd_vars, odd_of, cuts, interval_len, intervals_len, enough, IntervalsCount, LastIsLong};
 ghost use Rattle.sat_lits.specs.declared.formula.Item.TheVariants.{Parity};
@@ -62,4 +63,14 @@ pub fn the_last_interval_is_long()
 /// With two variables 109 conflicts are enough.
 pub fn two_variables_need_109_conflicts()
     ensures { enough 2 ≡ 109 }
+{}
+
+/// One variable more turns the parity where it is true.
+pub fn a_variable_turns_the_parity()
+    ensures { (values : List Bool) (v : Var) (vars : List Var) → is_odd values (v ∷ vars) ≡ signed (value_of values v) (is_odd values vars) }
+{}
+
+/// A variable that stands twice changes nothing.
+pub fn repeats_cancel()
+    ensures { (values : List Bool) (v : Var) (vars : List Var) → is_odd values (v ∷ v ∷ vars) ≡ is_odd values vars }
 {}
