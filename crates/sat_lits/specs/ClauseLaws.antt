@@ -1,7 +1,8 @@
 -- Facts on clauses over any kind of literal `L` and any truth `L → Bool`.
 use Rattle.std.proofs.Common.{◌≡◌, ℕ, Bool, true, false, not, cond, ◌&&◌, ◌||◌, ◌==◌, List, [], ◌∷◌, ◌++◌, map, filter, refl, sym, ap, ap₂, ◌∙◌}
+use Rattle.std.specs.Bool.{beq}
 use Rattle.std.specs.List.{list_all, list_any}
-use Rattle.std.proofs.lemmas.Bool.{and_parts, and_from, or_left, or_right, not-true, false≢true, eq-eqb}
+use Rattle.std.proofs.lemmas.Bool.{and_parts, and_from, or_left, or_right, not-true, false≢true, eq-eqb, eqb-true}
 use Rattle.std.proofs.lemmas.List.Folds.{list_all-append, list_any-append}
 use Rattle.sat_lits.specs.ListLaws.{any_mono, all_or_any, any_agree, all_agree, any_map, any_filter, all_filter}
 use Rattle.sat_lits.specs.Truth.{signed, clause_value, clauses_value, with_value}
@@ -35,6 +36,33 @@ pub signed_comm : (a b value : Bool) → signed a (signed b value) ≡ signed b 
 signed_comm true true value = refl
 signed_comm true false value = refl
 signed_comm false b value = refl
+
+-- signs that the test calls equal are
+pub beq_true : (a b : Bool) → beq a b ≡ true → a ≡ b
+beq_true true true e = refl
+beq_true true false e = sym e
+beq_true false true e = e
+beq_true false false e = refl
+
+-- signs that it calls different are opposite
+pub beq_false : (a b : Bool) → not (beq a b) ≡ true → b ≡ not a
+beq_false true true e = sym e
+beq_false true false e = refl
+beq_false false true e = refl
+beq_false false false e = e
+
+-- two literals of one variable and one sign have one value
+pub signed_same : {L : Type 0} (of : L → ℕ) (sign : L → Bool) (w : ℕ → Bool) (k l : L) → (of k == of l && beq (sign k) (sign l)) ≡ true → signed (sign k) (w (of k)) ≡ signed (sign l) (w (of l))
+signed_same of sign w k l e =
+    let p : ((of k == of l) ≡ true) × (beq (sign k) (sign l) ≡ true) = and_parts _ _ e in
+    ap₂ signed (beq_true (sign k) (sign l) p.1) (ap w (eqb-true (of k) (of l) p.0))
+
+-- two literals of one variable and opposite signs have opposite values
+pub signed_opposite : {L : Type 0} (of : L → ℕ) (sign : L → Bool) (w : ℕ → Bool) (k l : L) → (of k == of l && not (beq (sign k) (sign l))) ≡ true
+    → signed (sign l) (w (of l)) ≡ not (signed (sign k) (w (of k)))
+signed_opposite of sign w k l e =
+    let p : ((of k == of l) ≡ true) × (not (beq (sign k) (sign l)) ≡ true) = and_parts _ _ e in
+    ap₂ signed (beq_false (sign k) (sign l) p.1) (ap w (sym (eqb-true (of k) (of l) p.0))) ∙ signed_not (sign k) (w (of k))
 
 -- two clauses joined are true where one is
 pub clause_value-append : {L : Type 0} (truth : L → Bool) (c d : List L) → clause_value truth (c ++ d) ≡ (clause_value truth c || clause_value truth d)
