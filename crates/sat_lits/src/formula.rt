@@ -300,6 +300,28 @@ mod tests {
     }
 
     #[test]
+    fn a_formula_of_a_million_literals_is_judged(rt: HostRuntime) -> Result<(), Fail> {
+        let mut formula = Formula::new(rt.alloc(), Limits::standard());
+        formula.grow(1000)?;
+        let mut lits = [Lit {
+            var: Var(0),
+            negative: false,
+        }; 4];
+        lits[3].negative = true;
+        for number in 0..250_000_u32 {
+            lits[0].var = Var(number % 1000);
+            lits[1].var = Var(number % 999);
+            lits[2].var = Var(number % 998);
+            lits[3].var = Var(number % 997);
+            formula.push_clause(&lits)?;
+        }
+        assert_eq!(rt; formula.lits(), 1_000_000);
+        let values = vec![in rt.alloc(); false; formula.vars() as usize]?;
+        assert!(rt; formula.satisfied_by(&values));
+        Ok(())
+    }
+
+    #[test]
     fn errors_are_told_by_name(rt: HostRuntime) -> Result<(), Fail> {
         let rows = [
             (FormulaError::NoSuchVar { var: 7 }, "NoSuchVar 7"),
