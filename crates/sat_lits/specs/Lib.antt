@@ -4,6 +4,7 @@ pub mod Meaning
 pub mod Verdicts
 pub mod Formulas
 pub mod Kept
+pub mod InLits
 pub mod Logs
 pub mod Conflicts
 pub mod ListLaws

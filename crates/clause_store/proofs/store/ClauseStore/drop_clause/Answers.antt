@@ -1,0 +1,21 @@
+use Rattle.std.proofs.Common.{ℕ, ◌<◌, length, arith}
+use Rattle.sat_lits.specs.InLits.{is_distinct}
+use Rattle.clause_store.specs.Store.{Held}
+use Rattle.clause_store.specs.Places.{held_from}
+use Rattle.clause_store.proofs.Places.{stored_within, stored-set, held_from-set, all_without}
+use Rattle.clause_store.proofs.store.ClauseStore.drop_clause.Goals as goal
+use Rattle.clause_store.proofs.store.ClauseStore.drop_clause.Goals.{Joined-index_mut}
+
+within : (c : Joined-index_mut) → c.args.id.0 < length c.self.inside.places.items
+within c = stored_within c.self.inside.places.items c.args.self.now c.args.id.0 c.self.view_is c.requires
+
+pub index_mut-requires : goal.index_mut-requires
+index_mut-requires c = rw c.self.inside.places.ok.0 (stored_within c.self.inside.places.items c.args.self.now c.args.id.0 c.self.view_is c.requires)
+
+pub invariant_of-self : goal.invariant_of-self
+invariant_of-self c =
+    rw (held_from-set 0 c.args.id.0 c.args.id.0 c.self.inside.places.items (omega arith) (within c))
+    (all_without (λ (h : Held). is_distinct h.lits) c.args.id.0 (held_from 0 c.self.inside.places.items) c.self.invariant)
+
+pub returns : goal.returns
+returns c = stored-set c.self.inside.places.items c.args.self.now c.args.id.0 c.self.view_is (within c)

@@ -1,0 +1,4 @@
+pub mod Store
+pub mod Places
+pub mod Inside
+pub mod Laws
