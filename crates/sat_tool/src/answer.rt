@@ -52,8 +52,10 @@ pub fn answer<R: Threads + Sync, K: Sink, A: Alarm + Send>(
     alarm: &mut A,
     solver: &mut SatSolver,
 ) -> Result<Answer, Stop>
-    ensures ok { IfOk result (λ a. WritesAnswer a solver.old.problem solver.new (port (K.written sink.old) (K.faults sink.old)) (port (K.written sink.new) (K.faults sink.new))) }
-    ensures err { IfErr result (λ stop. StopsAnswer stop solver.old.problem (port (K.written sink.old) (K.faults sink.old)) (port (K.written sink.new) (K.faults sink.new))) }
+    ensures ok { IfOk result (λ a. WritesAnswer a solver.old.problem solver.new
+        (port (K.written sink.old) (K.faults sink.old)) (port (K.written sink.new) (K.faults sink.new))) }
+    ensures err { IfErr result (λ stop. StopsAnswer stop solver.old.problem
+        (port (K.written sink.old) (K.faults sink.old)) (port (K.written sink.new) (K.faults sink.new))) }
     ensures problem { solver.new.problem ≡ solver.old.problem }
 {
     match solver.solve(rt, &[], alarm) {
@@ -79,7 +81,8 @@ fn stop_for(halt: Halt) -> Stop
 
 /// Writes a refusal.
 pub fn refuse<K: Sink>(alloc: Global, sink: &mut K, why: Refusal) -> Stop
-    ensures { StopsRefusal result why (port (K.written sink.old) (K.faults sink.old)) (port (K.written sink.new) (K.faults sink.new)) }
+    ensures { StopsRefusal result why
+        (port (K.written sink.old) (K.faults sink.old)) (port (K.written sink.new) (K.faults sink.new)) }
 {
     match write_refusal(alloc, sink, &why) {
         Ok(()) => Stop::Refused,

@@ -25,7 +25,10 @@ fn reach_of(lits: &[Lit]) -> u32
 /// Adds variables up to this number.
 fn make_room(solver: &mut SatSolver, vars: u32)
     requires { vars ≤ solver.old.limits.vars }
-    ensures vars { solver.new.problem ≡ record { vars = max solver.old.problem.vars vars; items = solver.old.problem.items } }
+    ensures vars { solver.new.problem ≡ record {
+      vars = max solver.old.problem.vars vars;
+      items = solver.old.problem.items;
+    } }
     ensures limits { solver.new.limits ≡ solver.old.limits }
 {
     let known = solver.n_vars();

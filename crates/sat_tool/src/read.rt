@@ -24,8 +24,10 @@ fn take_piece(
     solver: &mut SatSolver,
 ) -> Result<(), ReadError>
     requires { (text : List ℕ) × HasCarried text reader.old solver.old }
-    ensures ok { OnOk result ((text : List ℕ) → HasCarried text reader.old solver.old → HasCarried (text ++ piece.now) reader.new solver.new) }
-    ensures refused { (why : Why) → result ≡ Err (ReadError.Refused why) → (text : List ℕ) → HasCarried text reader.old solver.old
+    ensures ok { OnOk result ((text : List ℕ) → HasCarried text reader.old solver.old
+        → HasCarried (text ++ piece.now) reader.new solver.new) }
+    ensures refused { (why : Why) → result ≡ Err (ReadError.Refused why)
+        → (text : List ℕ) → HasCarried text reader.old solver.old
         → (rest : List ℕ) → (reading_of standard_limits ((text ++ piece.now) ++ rest)).end ≡ Refused why }
 {
     let mut commands = Commands::new(alloc);
@@ -41,8 +43,10 @@ fn take_piece(
 /// The text ends here.
 fn take_end(alloc: Global, reader: &mut Reader, solver: &mut SatSolver) -> Result<(), ReadError>
     requires { (text : List ℕ) × HasCarried text reader.old solver.old }
-    ensures ok { OnOk result ((text : List ℕ) → HasCarried text reader.old solver.old → HasCarriedAll text solver.new) }
-    ensures refused { (why : Why) → result ≡ Err (ReadError.Refused why) → (text : List ℕ) → HasCarried text reader.old solver.old
+    ensures ok { OnOk result ((text : List ℕ) → HasCarried text reader.old solver.old
+        → HasCarriedAll text solver.new) }
+    ensures refused { (why : Why) → result ≡ Err (ReadError.Refused why)
+        → (text : List ℕ) → HasCarried text reader.old solver.old
         → (reading_of standard_limits text).end ≡ Refused why }
 {
     let mut commands = Commands::new(alloc);
@@ -74,7 +78,8 @@ pub fn read_formula<S: Source>(
     requires room { 0 < length piece.old }
     requires fresh { solver.old ≡ unanswered nothing_yet standard_limits }
     ensures ok { OnOk result (ReadsAll (S.left source.old) (S.left source.new) solver.new) }
-    ensures refused { (why : Why) → result ≡ Err (Unread.Refused why) → ReadsRefusal (S.left source.old) (S.left source.new) why }
+    ensures refused { (why : Why) → result ≡ Err (Unread.Refused why)
+        → ReadsRefusal (S.left source.old) (S.left source.new) why }
     ensures fault { result ≡ Err Unread.Fault → Rose (S.faults source.old) (S.faults source.new) }
     ensures kept { result ≢ Err Unread.Fault → S.faults source.new ≡ S.faults source.old }
 {

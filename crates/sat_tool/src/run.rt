@@ -26,9 +26,12 @@ fn serve<R: Threads + Sync, S: Source, K: Sink, A: Alarm + Send>(
     solver: &mut SatSolver,
 ) -> Result<Answer, Stop>
     requires { solver.old ≡ unanswered nothing_yet standard_limits }
-    ensures ok { IfOk result (λ a. AnswersText a (port (S.left source.old) (S.faults source.old)) (port (S.left source.new) (S.faults source.new))
-        (port (K.written sink.old) (K.faults sink.old)) (port (K.written sink.new) (K.faults sink.new)) solver.new) }
-    ensures err { IfErr result (λ stop. StopsRight stop (port (S.left source.old) (S.faults source.old)) (port (S.left source.new) (S.faults source.new))
+    ensures ok { IfOk result (λ a. AnswersText a
+        (port (S.left source.old) (S.faults source.old)) (port (S.left source.new) (S.faults source.new))
+        (port (K.written sink.old) (K.faults sink.old)) (port (K.written sink.new) (K.faults sink.new))
+        solver.new) }
+    ensures err { IfErr result (λ stop. StopsRight stop
+        (port (S.left source.old) (S.faults source.old)) (port (S.left source.new) (S.faults source.new))
         (port (K.written sink.old) (K.faults sink.old)) (port (K.written sink.new) (K.faults sink.new))) }
 {
     let Ok(mut piece) = Vec::from_elem(alloc, 0u8, PIECE) else {
@@ -71,8 +74,10 @@ pub fn run<R: Threads + Sync, S: Source, K: Sink, A: Alarm + Send>(
     solver: &mut SatSolver,
 ) -> u8
     requires { solver.old ≡ unanswered nothing_yet standard_limits }
-    ensures { RunsRight (length words.now) result (port (S.left source.old) (S.faults source.old)) (port (S.left source.new) (S.faults source.new))
-        (port (K.written sink.old) (K.faults sink.old)) (port (K.written sink.new) (K.faults sink.new)) solver.new }
+    ensures { RunsRight (length words.now) result
+        (port (S.left source.old) (S.faults source.old)) (port (S.left source.new) (S.faults source.new))
+        (port (K.written sink.old) (K.faults sink.old)) (port (K.written sink.new) (K.faults sink.new))
+        solver.new }
 {
     if !words.is_empty() {
         return 1;

@@ -29,7 +29,8 @@ fn write_all<K: Sink>(sink: &mut K, bytes: &[u8]) -> Result<(), Failed>
 
 /// Writes the text of a verdict.
 pub fn write_verdict<K: Sink>(alloc: Global, sink: &mut K, verdict: &Verdict) -> Result<(), Halt>
-    ensures { WritesText (text_of_verdict verdict.now) result (port (K.written sink.old) (K.faults sink.old)) (port (K.written sink.new) (K.faults sink.new)) }
+    ensures { WritesText (text_of_verdict verdict.now) result
+        (port (K.written sink.old) (K.faults sink.old)) (port (K.written sink.new) (K.faults sink.new)) }
 {
     let mut text = List::new(alloc);
     match print_verdict(&mut text, verdict) {
@@ -43,7 +44,8 @@ pub fn write_verdict<K: Sink>(alloc: Global, sink: &mut K, verdict: &Verdict) ->
 
 /// Writes the text of a refusal.
 pub fn write_refusal<K: Sink>(alloc: Global, sink: &mut K, why: &Refusal) -> Result<(), Halt>
-    ensures { WritesText (text_of_refusal why.now) result (port (K.written sink.old) (K.faults sink.old)) (port (K.written sink.new) (K.faults sink.new)) }
+    ensures { WritesText (text_of_refusal why.now) result
+        (port (K.written sink.old) (K.faults sink.old)) (port (K.written sink.new) (K.faults sink.new)) }
 {
     let mut text = List::new(alloc);
     match print_refusal(&mut text, why) {
