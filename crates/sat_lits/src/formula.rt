@@ -105,6 +105,7 @@ impl Formula {
     /// `NoSuchVar` comes exactly where a variable is not there, and names the first such;
     /// `TooManyLits` exactly where else the literals of all items would be more than the limit;
     /// `Memory` last.
+    #[tactic(auto, using(crate::specs::Laws::known_where_none))]
     pub fn push_clause(&mut self, lits: &[Lit]) -> Result<(), FormulaError>
         ensures ok { OnOk result (self.new.problem ≡ with_item (Clause lits.now) self.old.problem) }
         ensures limits { self.new.limits ≡ self.old.limits }
@@ -133,6 +134,7 @@ impl Formula {
     /// often as it stands, is odd exactly if `rhs`.
     ///
     /// The refusals are those of a clause, where each variable counts as one literal.
+    #[tactic(auto, using(crate::specs::Laws::known_where_none))]
     pub fn push_parity(&mut self, vars: &[Var], rhs: bool) -> Result<(), FormulaError>
         ensures ok { OnOk result (self.new.problem ≡ with_item (Parity vars.now rhs) self.old.problem) }
         ensures limits { self.new.limits ≡ self.old.limits }
