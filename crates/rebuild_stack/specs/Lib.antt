@@ -1,0 +1,9 @@
+pub mod Values
+pub mod Entries
+pub mod Roots
+pub mod PutIn
+pub mod CommonLaws
+pub mod RebuildLaws
+pub mod RootLaws
+pub mod PutInLaws
+pub mod OrderLaws
