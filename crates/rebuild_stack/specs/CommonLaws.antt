@@ -1,11 +1,12 @@
 -- Facts on tests of lists, on clauses over any kind of literal, and on valuations.
-use Rattle.std.proofs.Common.{◌≡◌, ℕ, ◌==◌, Bool, true, false, cond, not, ◌||◌, List, [], ◌∷◌, refl, sym, ap, ◌∙◌, eqb-true, eq-eqb}
-use Rattle.std.proofs.lemmas.Bool.{and_parts, and_from, true≢false}
+use Rattle.std.proofs.Common.{◌≡◌, ℕ, ◌==◌, Bool, true, false, cond, not, ◌||◌, List, refl, sym, ap, ◌∙◌, eqb-true}
+use Rattle.std.proofs.lemmas.Bool.{true≢false}
 use Rattle.std.proofs.Math.Path.{fun_ext}
 use Rattle.std.specs.Bool.{beq}
 use Rattle.std.specs.List.{list_all}
-use Rattle.sat_lits.specs.Truth.{signed}
-use Rattle.rebuild_stack.specs.Values.{with_value, each_lit}
+use Rattle.sat_lits.specs.Truth.{signed, with_value}
+use Rattle.sat_lits.specs.ListLaws.{all_mono}
+use Rattle.rebuild_stack.specs.Values.{each_lit}
 
 -- a choice by a false test is its second value
 pub cond_at : {A : Type 0} (b : Bool) (x y : A) → b ≡ false → cond b x y ≡ y
@@ -35,37 +36,15 @@ beq_same true false e = sym e
 beq_same false true e = e
 beq_same false false e = refl
 
--- where each element that passes one test passes another
-pub all_mono : {X : Type 0} (p q : X → Bool) → ((x : X) → p x ≡ true → q x ≡ true) → (xs : List X) → list_all p xs ≡ true → list_all q xs ≡ true
-all_mono p q h [] e = refl
-all_mono p q h (x ∷ xs) e =
-    let a : (p x ≡ true) × (list_all p xs ≡ true) = and_parts _ _ e in
-    and_from _ _ (h x a.0) (all_mono p q h xs a.1)
-
--- the same of each literal of each clause
+-- where each literal that passes one test passes another, clauses of the first pass the second
 pub each_mono : {L : Type 0} (p q : L → Bool) → ((l : L) → p l ≡ true → q l ≡ true) → (cs : List (List L)) → each_lit p cs ≡ true → each_lit q cs ≡ true
 each_mono p q h cs e = all_mono (list_all p) (list_all q) (all_mono p q h) cs e
-
--- twice negated by two signs is once negated by their sum
-pub signed-signed : (a b value : Bool) → signed (signed a b) value ≡ signed a (signed b value)
-signed-signed true true true = refl
-signed-signed true true false = refl
-signed-signed true false value = refl
-signed-signed false b value = refl
 
 -- the variable of a true literal has the value that the sign says
 pub signed_true : (negative value : Bool) → signed negative value ≡ true → value ≡ not negative
 signed_true true true e = sym e
 signed_true true false e = refl
 signed_true false value e = e
-
--- a changed valuation has the new value at its variable
-pub with_value_same : (w : ℕ → Bool) (var : ℕ) (value : Bool) → with_value w var value var ≡ value
-with_value_same w var value = ap (λ b. cond b value (w var)) (eq-eqb var var refl)
-
--- and the old one at each other variable
-pub with_value_other : (w : ℕ → Bool) (var : ℕ) (value : Bool) (n : ℕ) → (n == var) ≡ false → with_value w var value n ≡ w n
-with_value_other w var value n e = ap (λ b. cond b value (w n)) e
 
 -- a valuation that is given a value that it has stays
 pub with_value_kept : (w : ℕ → Bool) (var : ℕ) (value : Bool) → value ≡ w var → with_value w var value ≡ w

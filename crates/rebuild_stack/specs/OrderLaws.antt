@@ -3,9 +3,8 @@ use Rattle.std.proofs.Common.{◌≡◌, ℕ, ◌==◌, ◌+◌, ◌≤◌, Bool
 use Rattle.std.proofs.lemmas.Bool.{and_parts, and_from, or_parts, or_cases, or_left, or_right, false_from_ne_true, false≢true}
 use Rattle.std.proofs.lemmas.List.Folds.{list_any-append}
 use Rattle.std.specs.List.{list_any}
-use Rattle.sat_lits.specs.Truth.{signed}
+use Rattle.sat_lits.specs.Truth.{signed, with_value}
 use Rattle.sat_lits.specs.declared.literal.OwnLit.{OwnLit}
-use Rattle.rebuild_stack.specs.Values.{with_value}
 use Rattle.rebuild_stack.specs.Entries.{named, names, others_pass, ordered, times_named}
 use Rattle.rebuild_stack.specs.Roots.{turned, root, root_passes}
 use Rattle.rebuild_stack.specs.CommonLaws.{cond_at, each_mono}

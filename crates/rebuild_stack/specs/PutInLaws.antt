@@ -4,9 +4,9 @@ use Rattle.std.proofs.lemmas.Bool.{and_parts, and_from, or_cases, or_parts, not-
 use Rattle.std.proofs.lemmas.List.Folds.{list_all-append, list_any-append}
 use Rattle.std.specs.Bool.{beq}
 use Rattle.std.specs.List.{list_any, list_all, cons_option}
-use Rattle.sat_lits.specs.Truth.{signed, clause_value}
+use Rattle.sat_lits.specs.Truth.{signed, clause_value, clauses_value}
 use Rattle.sat_lits.specs.declared.literal.OwnLit.{OwnLit}
-use Rattle.rebuild_stack.specs.Values.{clauses_value, own_value, each_lit}
+use Rattle.rebuild_stack.specs.Values.{own_value, each_lit}
 use Rattle.rebuild_stack.specs.Roots.{turned, root_value, root_passes}
 use Rattle.rebuild_stack.specs.PutIn.{same_lit, add_lit, add_root, put_in, put_in_all, option_value, option_passes, is_clean, option_clean}
 use Rattle.rebuild_stack.specs.CommonLaws.{or_true, or_false, or_comm, or_assoc, beq_same}

@@ -2,12 +2,13 @@
 use Rattle.std.proofs.Common.{◌≡◌, ℕ, ◌==◌, Bool, true, false, not, List, [], ◌∷◌, ◌++◌, refl, sym, ap, ◌∙◌}
 use Rattle.std.proofs.lemmas.Bool.{and_parts, or_parts}
 use Rattle.std.specs.List.{list_any, list_all}
-use Rattle.sat_lits.specs.Truth.{signed}
+use Rattle.sat_lits.specs.Truth.{signed, clauses_value}
+use Rattle.sat_lits.specs.ClauseLaws.{with_value_same, with_value_other}
 use Rattle.sat_lits.specs.declared.literal.Own.{Own}
 use Rattle.sat_lits.specs.declared.literal.OwnLit.{OwnLit}
-use Rattle.rebuild_stack.specs.Values.{clauses_value, own_value}
+use Rattle.rebuild_stack.specs.Values.{own_value}
 use Rattle.rebuild_stack.specs.Entries.{undo, rebuild, entry_value, names}
-use Rattle.rebuild_stack.specs.CommonLaws.{beq_same, signed_true, with_value_same, with_value_other, with_value_kept}
+use Rattle.rebuild_stack.specs.CommonLaws.{beq_same, signed_true, with_value_kept}
 use Rattle.rebuild_stack.specs.declared.entry.Entry.{Entry}
 use Rattle.rebuild_stack.specs.declared.entry.Entry.TheVariants.{Fix, Equal, Gone}
 

@@ -3,12 +3,13 @@ use Rattle.std.proofs.Common.{◌≡◌, ℕ, ◌==◌, Bool, true, false, cond,
 use Rattle.std.proofs.lemmas.Bool.{and_parts, or_parts, true≢false}
 use Rattle.std.specs.Bool.{beq}
 use Rattle.std.specs.List.{list_any, list_all}
-use Rattle.sat_lits.specs.Truth.{signed}
+use Rattle.sat_lits.specs.Truth.{signed, clauses_value}
+use Rattle.sat_lits.specs.ClauseLaws.{signed-signed}
 use Rattle.sat_lits.specs.declared.literal.OwnLit.{OwnLit}
-use Rattle.rebuild_stack.specs.Values.{clauses_value, own_value}
+use Rattle.rebuild_stack.specs.Values.{own_value}
 use Rattle.rebuild_stack.specs.Entries.{rebuild, entry_value, names, is_gone}
 use Rattle.rebuild_stack.specs.Roots.{turned, root, is_lost, root_value}
-use Rattle.rebuild_stack.specs.CommonLaws.{cond_at, beq_same, signed_true, signed-signed}
+use Rattle.rebuild_stack.specs.CommonLaws.{cond_at, beq_same, signed_true}
 use Rattle.rebuild_stack.specs.declared.entry.Entry.{Entry}
 use Rattle.rebuild_stack.specs.declared.entry.Entry.TheVariants.{Fix, Equal, Gone}
 use Rattle.rebuild_stack.specs.declared.entry.Root.{Root}

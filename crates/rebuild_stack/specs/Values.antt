@@ -1,16 +1,8 @@
 -- Values of own variables. A valuation is a function from own numbers to values.
-use Rattle.std.specs.Prelude.{ℕ, ◌==◌, Bool, false, cond, List, slice_index_or}
+use Rattle.std.specs.Prelude.{ℕ, Bool, false, List, slice_index_or}
 use Rattle.std.specs.List.{list_all}
-use Rattle.sat_lits.specs.Truth.{signed, clause_value}
+use Rattle.sat_lits.specs.Truth.{signed}
 use Rattle.sat_lits.specs.declared.literal.OwnLit.{OwnLit}
-
--- whether every clause is true
-abbrev pub clauses_value : {L : Type 0} → (L → Bool) → List (List L) → Bool
-clauses_value truth clauses = list_all (clause_value truth) clauses
-
--- the valuation that differs at one variable, which has this value there
-abbrev pub with_value : (ℕ → Bool) → ℕ → Bool → ℕ → Bool
-with_value w var value n = cond (n == var) value (w n)
 
 -- the values of a list, by number, and false past its end
 abbrev pub values_of : List Bool → ℕ → Bool

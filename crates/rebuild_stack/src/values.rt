@@ -1,6 +1,6 @@
 ghost use Rattle.std.specs.Prelude.{◌≡◌, length, true};
-ghost use Rattle.sat_lits.specs.Truth.{clause_value};
-ghost use Rattle.rebuild_stack.specs.Values.{values_of, own_value, clauses_value};
+ghost use Rattle.sat_lits.specs.Truth.{clause_value, clauses_value};
+ghost use Rattle.rebuild_stack.specs.Values.{values_of, own_value};
 ghost use Rattle.rebuild_stack.specs.Entries.{is_within, undo};
 
 use crate::block::Block;
