@@ -1,8 +1,6 @@
 -- Facts on held clauses that every crate above may cite.
 use Rattle.std.proofs.Common.{◌≡◌, None, Bool, true, false, cond, not, List, [], ◌∷◌, map, filter, refl, sym, ap, ◌∙◌}
-use Rattle.std.specs.List.{list_all}
 use Rattle.sat_lits.specs.declared.literal.InLit.{InLit}
-use Rattle.sat_lits.specs.InLits.{is_distinct}
 use Rattle.clause_store.specs.Store.{Held, before, contents, hard_of, learned_of}
 
 -- the literals of the clauses that pass a test of their list

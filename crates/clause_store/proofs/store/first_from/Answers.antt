@@ -1,6 +1,4 @@
-use Rattle.std.proofs.Common.{◌≡◌, ◌∙◌, sym, ap, ◌+◌, ◌≤◌, ◌++◌, suc, true, false, Option, None, length, take, take_all, option_map, option_to_list, append-nil, arith}
-use Rattle.clause_store.specs.declared.store.Clause.{Clause}
-use Rattle.clause_store.specs.Store.{is_live, clause_at}
+use Rattle.std.proofs.Common.{◌∙◌, sym, ap, take_all}
 use Rattle.clause_store.specs.Places.{held_from}
 use Rattle.clause_store.specs.Laws.{before-none}
 use Rattle.clause_store.proofs.Places.{is_live-first, walk_past, before-live}

@@ -1,4 +1,4 @@
-use Rattle.std.proofs.Common.{◌≡◌, ◌∙◌, ap, sym, true}
+use Rattle.std.proofs.Common.{◌∙◌, ap}
 use Rattle.sat_lits.specs.Laws.{all_push}
 use Rattle.sat_lits.specs.InLits.{is_distinct}
 use Rattle.clause_store.specs.Store.{Held}

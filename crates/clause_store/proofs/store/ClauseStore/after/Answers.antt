@@ -1,4 +1,4 @@
-use Rattle.std.proofs.Common.{◌≡◌, ◌<◌, ◌≤◌, ◌+◌, ◌^◌, ◌∙◌, List, Option, ap, sym, length, take, arith, rules}
+use Rattle.std.proofs.Common.{◌<◌, ◌+◌, ◌^◌, ◌∙◌, List, Option, ap, sym, length, take, arith, rules}
 use Rattle.clause_store.specs.declared.store.Clause.{Clause}
 use Rattle.clause_store.specs.Store.{Store, before}
 use Rattle.clause_store.specs.Places.{held_from}

@@ -1,4 +1,4 @@
-use Rattle.std.proofs.Common.{ℕ, ◌<◌, length, arith}
+use Rattle.std.proofs.Common.{◌<◌, length, arith}
 use Rattle.sat_lits.specs.InLits.{is_distinct}
 use Rattle.clause_store.specs.Store.{Held}
 use Rattle.clause_store.specs.Places.{held_from}

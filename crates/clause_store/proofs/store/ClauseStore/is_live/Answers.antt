@@ -1,4 +1,4 @@
-use Rattle.std.proofs.Common.{◌≡◌, ◌<◌, ◌≤◌, ◌∙◌, ap, sym, length, arith, false, ltb}
+use Rattle.std.proofs.Common.{◌<◌, ◌≤◌, ◌∙◌, ap, sym, length, arith}
 use Rattle.std.proofs.lemmas.Bool.{le-ltb}
 use Rattle.clause_store.specs.Store.{Store, is_live}
 use Rattle.clause_store.proofs.Places.{is_live-first, is_live-past, stored_kept}
