@@ -139,10 +139,12 @@ clauses_value_agree stands s t h cs e = all_agree (list_all stands) (clause_valu
 pub clauses_value_filter : {L : Type 0} (truth : L → Bool) (keep : List L → Bool) (cs : List (List L)) → clauses_value truth cs ≡ true → clauses_value truth (filter keep cs) ≡ true
 clauses_value_filter truth keep cs e = all_filter (clause_value truth) keep (clause_value truth) (λ c t k. t) cs e
 
+-- a conjunction may be put into the first of two
 and_left_in : (v a r : Bool) → (v && (a && r)) ≡ ((v && a) && r)
 and_left_in true a r = refl
 and_left_in false a r = refl
 
+-- or into the second
 and_right_in : (v a r : Bool) → (v && (a && r)) ≡ (a && (v && r))
 and_right_in true a r = refl
 and_right_in false true r = refl

@@ -1,30 +1,35 @@
 -- Facts on the numbers of conflicts.
-use Rattle.std.proofs.Common.{◌≡◌, ◌⊎◌, ◌↔◌, inl, inr, ℕ, zero, suc, ◌+◌, ◌-◌, ◌*◌, ◌/◌, ◌^◌, ◌<◌, ◌≤◌, min, sum, map, refl, sym, ap, ◌∙◌, arith, add-one, ⊎_elim}
+use Rattle.std.proofs.Common.{◌≡◌, ◌⊎◌, inl, inr, ℕ, zero, suc, ◌+◌, ◌-◌, ◌*◌, ◌/◌, ◌^◌, ◌<◌, ◌≤◌, min, sum, map, refl, sym, ap, ◌∙◌, arith, add-one, ⊎_elim}
 use Rattle.std.specs.List.{range_with_len}
 use Rattle.std.proofs.Math.Nat.{mul_assoc, mul-suc, suc-mul}
 use Rattle.std.proofs.lemmas.Bool.{cases_lt}
 use Rattle.std.proofs.lemmas.List.FromFn.{sum_by-map-range_with_len_more}
-use Rattle.sat_lits.specs.Conflicts.{interval_len, intervals_len, intervals_for, IntervalsCount, LastIsLong}
+use Rattle.sat_lits.specs.Conflicts.{interval_len, intervals_len, IntervalsCount, LastIsLong}
 
+-- the closed form at two neighbouring numbers, with the products written out
 products : (n m : ℕ) → m ≡ suc n → 100 * suc m + 10 * suc m * m ≡ (100 * m + 10 * m * n) + (100 + 20 * m)
 products n m e =
     let square : m * m ≡ m * n + m = ap (λ k. m * k) e ∙ mul-suc m n in
     omega (arith, mul_assoc 10 (suc m) m, suc-mul m m, square, mul_assoc 10 m n)
 
+-- one less than a number with one more
 less_one : (n : ℕ) → suc n - 1 ≡ n
 less_one n = omega arith
 
+-- one interval more adds its length
 more : (n : ℕ) → intervals_len (suc n) ≡ intervals_len n + interval_len n
 more zero = refl
 more (suc n) = rw (less_one (suc n), less_one n) (products n (suc n) refl)
 
--- the greatest of the intervals that count when there is no bound on their number
+-- an interval before the first long one is too short
 short : (p q j k : ℕ) → q ≡ (p - 100 + 19) / 20 → j < k → k < q + 1 → 100 + 20 * j < p
 short p q j k e h l = omega arith
 
+-- and that one is long enough
 long : (p q : ℕ) → q ≡ (p - 100 + 19) / 20 → p ≤ 100 + 20 * q
 long p q e = omega arith
 
+-- by cases on whether the first long one is within the bound
 pub last_is_long : LastIsLong
 last_is_long n = go (3 ^ n) ((3 ^ n - 100 + 19) / 20) refl (cases_lt ((3 ^ n - 100 + 19) / 20) (2 ^ 20))
   where
@@ -32,6 +37,7 @@ last_is_long n = go (3 ^ n) ((3 ^ n - 100 + 19) / 20) refl (cases_lt ((3 ^ n - 1
     go p q e (inl few) = inl (omega (arith, long p q e))
     go p q e (inr many) = inr (omega arith)
 
+-- what counts is what stands before the first long one, and that one
 pub intervals_count : IntervalsCount
 intervals_count n k = (forth (3 ^ n) ((3 ^ n - 100 + 19) / 20) refl, back (3 ^ n) ((3 ^ n - 100 + 19) / 20) refl)
   where

@@ -41,7 +41,7 @@ with_item-Extends item f = record { vars = omega arith; more = item ∷ []; item
 pub front_value : (values : List Bool) (vars : ℕ) (v : Var) → nat_lt v.0 vars ≡ true → value_of (take vars values) v ≡ value_of values v
 front_value values vars v e = get_or-take vars values v.0 false (ltb-true v.0 vars e)
 
--- a test that both counts agree on
+-- two tests that agree at each variable of a list count alike
 count_agree : (stands p q : Var → Bool) → ((v : Var) → stands v ≡ true → p v ≡ q v) → (vars : List Var) → list_all stands vars ≡ true → count_by p vars ≡ count_by q vars
 count_agree stands p q h [] e = refl
 count_agree stands p q h (v ∷ vs) e =

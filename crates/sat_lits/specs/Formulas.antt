@@ -12,9 +12,11 @@ pub record Bounded : Type 0 where
   pub problem : Problem
   pub limits : LimitNumbers
 
+-- the formula with this many variables more
 abbrev pub with_vars : ℕ → Problem → Problem
 with_vars more f = record { vars = f.vars + more; items = f.items }
 
+-- the formula with one item more, at its end
 abbrev pub with_item : Item → Problem → Problem
 with_item item f = record { vars = f.vars; items = f.items ++ item ∷ [] }
 

@@ -1,16 +1,16 @@
 -- Facts on legal logs of shared clauses.
-use Rattle.std.proofs.Common.{◌≡◌, ◌⊎◌, inl, inr, ℕ, zero, suc, ◌+◌, ◌<◌, ◌≤◌, Bool, true, List, [], ◌∷◌, ◌++◌, All, length, map, take, get_or, nat_lt, min, Some, None, refl, sym, ap, subst, ◌∙◌, ⊎_elim, arith, add-one}
-use Rattle.std.specs.List.{list_all, slice_get, AllPairs}
+use Rattle.std.proofs.Common.{◌≡◌, ◌⊎◌, inl, inr, ℕ, zero, suc, ◌<◌, ◌≤◌, Bool, true, List, [], ◌∷◌, ◌++◌, length, map, take, get_or, nat_lt, min, Some, None, refl, sym, ap, subst, ◌∙◌, ⊎_elim, arith, add-one}
+use Rattle.std.specs.List.{list_all, slice_get}
 use Rattle.std.proofs.lemmas.Bool.{and_from, lt-ltb}
 use Rattle.std.proofs.lemmas.List.{take_all, take-take, take_more, take-append-le, length-take, get_or-take}
 use Rattle.std.proofs.lemmas.List.Folds.{list_all-append, list_all-map}
 use Rattle.std.proofs.lemmas.List.Quantifiers.{all_pairs_push}
 use Rattle.std.proofs.lemmas.List.Sums.{list_all-from_AllPass}
 use Rattle.std.proofs.lemmas.Option.{slice_get_cases, slice_get_within, same_Some, none-some}
-use Rattle.sat_lits.specs.ListLaws.{all_get, all_push, all_front}
+use Rattle.sat_lits.specs.ListLaws.{all_push, all_front}
 use Rattle.sat_lits.specs.FollowLaws.{Follows_items, Follows_more}
 use Rattle.sat_lits.specs.Meaning.{Problem, IsModel, Follows, satisfies, satisfies_clause}
-use Rattle.sat_lits.specs.Formulas.{Extends, names_known}
+use Rattle.sat_lits.specs.Formulas.{names_known}
 use Rattle.sat_lits.specs.Logs.{IsShareable, IsLegalAt, IsLegalLog, with_clauses, EachFollows, StaysLegal, FrontIsLegal, PushIsLegal}
 use Rattle.sat_lits.specs.declared.literal.Lit.{Lit}
 use Rattle.sat_lits.specs.declared.shared.Shared.{Shared}
@@ -73,6 +73,7 @@ shareable_known vars lits s =
 pub shareable_more : (vars more : ℕ) (lits : List Lit) → vars ≤ more → IsShareable vars lits → IsShareable more lits
 shareable_more vars more lits h s = record { some = s.some; few = s.few; there = λ k d l. omega (arith, s.there k d l, h); rising = s.rising }
 
+-- each clause follows from the old formula alone, and so from the new one
 pub stays_legal : StaysLegal
 stays_legal old new log known extends legal =
     record {
@@ -91,6 +92,7 @@ stays_legal old new log known extends legal =
 legal_along : (f : Problem) (log other : List Shared) (place : ℕ) (entry : Shared) → take entry.after log ≡ take entry.after other → IsLegalAt f log place entry → IsLegalAt f other place entry
 legal_along f log other place entry same at = record { earlier = at.earlier; follows = subst (λ entries. Follows (with_clauses f entries) entry.clause) same at.follows; shareable = at.shareable }
 
+-- an entry of the front names entries before it, which stand in the front
 pub front_is_legal : FrontIsLegal
 front_is_legal f log count legal =
     record {
@@ -105,6 +107,7 @@ front_is_legal f log count legal =
           λ e. legal.once i j d below (omega arith) (sym (ap (λ (s : Shared). s.clause) first) ∙ (e ∙ ap (λ (s : Shared). s.clause) second));
     }
 
+-- the old entries see what they saw, and the new one stands at the end
 pub push_is_legal : PushIsLegal
 push_is_legal f log entry legal last fresh =
     record {

@@ -15,6 +15,7 @@ use Rattle.sat_lits.specs.Conflicts.{toggled, odd_vars, odd_of, AreOddVars, cuts
 use Rattle.sat_lits.specs.declared.literal.Var.{Var}
 use Rattle.sat_lits.specs.declared.formula.Item.TheVariants.{Parity}
 
+-- one more is odd where the number is not
 one_more : (n : ℕ) → ((1 + n) % 2 == 1) ≡ not (n % 2 == 1)
 one_more n = go (n % 2 == 1) refl
   where
@@ -22,6 +23,7 @@ one_more n = go (n % 2 == 1) refl
     go true e = let odd : n % 2 ≡ 1 = eqb-true (n % 2) 1 e in ne_eqb ((1 + n) % 2) 1 (λ h. omega (arith, odd, h))
     go false e = let even : n % 2 ≡ 1 → ⊥ = eqb-false (n % 2) 1 e in eq-eqb ((1 + n) % 2) 1 (omega (arith, even))
 
+-- one more where a test passes turns the parity
 odd_step : (b : Bool) (n : ℕ) → ((cond {A = ℕ} b 1 0 + n) % 2 == 1) ≡ signed b (n % 2 == 1)
 odd_step true n = one_more n
 odd_step false n = ap (λ k. k % 2 == 1) (omega arith)
