@@ -177,17 +177,6 @@ stored_kept ps s e d = subst (λ (z : Store). IsKept z) e (record { below = ids_
 pub held_from-add : (ps : List (Option Clause)) (id : ℕ) (c : Clause) → id ≡ length ps → held_from 0 (ps ++ Some c ∷ []) ≡ held_from 0 ps ++ seen id c ∷ []
 held_from-add ps id c e = let k : 0 + length ps ≡ id = omega arith in held_from-push 0 ps c ∙ ap (λ (n : ℕ). held_from 0 ps ++ seen n c ∷ []) k
 
--- one clause less keeps what holds of all
-pub all_without : (p : Held → Bool) (id : ℕ) (held : List Held) → list_all p held ≡ true → list_all p (without id held) ≡ true
-all_without p id [] e = refl
-all_without p id (h ∷ held) e =
-    let a : (p h ≡ true) × (list_all p held ≡ true) = and_parts _ _ e in
-    go (not (eqb h.id id)) a.0 (all_without p id held a.1)
-  where
-    go : (b : Bool) → p h ≡ true → list_all p (without id held) ≡ true → list_all p (cond b (h ∷ without id held) (without id held)) ≡ true
-    go true k r = and_from _ _ k r
-    go false k r = r
-
 -- whether literals are distinct shows in the contents
 pub all_distinct-contents : (xs ys : List Held) → contents xs ≡ contents ys → list_all (λ h. is_distinct h.lits) ys ≡ true → list_all (λ h. is_distinct h.lits) xs ≡ true
 all_distinct-contents xs ys e h =

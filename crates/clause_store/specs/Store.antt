@@ -1,5 +1,5 @@
 -- What contracts see of a clause store.
-use Rattle.std.specs.Prelude.{◌≡◌, ℕ, ◌==◌, nat_lt, Bool, true, cond, not, ◌&&◌, List, [], ◌∷◌, map, filter, find, Option, Some, None, is_some}
+use Rattle.std.specs.Prelude.{◌≡◌, ℕ, ◌==◌, nat_lt, Bool, true, if◌then◌else◌, not, ◌&&◌, List, [], ◌∷◌, map, filter, find, Option, Some, None, is_some}
 use Rattle.std.specs.List.{list_all}
 use Rattle.sat_lits.specs.InLits.{is_distinct}
 use Rattle.sat_lits.specs.declared.literal.InLit.{InLit}
@@ -11,6 +11,7 @@ pub record Held : Type 0 where
   pub learned : Bool
   pub lits : List InLit
 
+-- a clause with its id, its list and its literals
 abbrev pub held_as : ℕ → Bool → List InLit → Held
 held_as id learned lits = record { id = id; learned = learned; lits = lits }
 
@@ -31,7 +32,7 @@ is_live held id = is_some (clause_at held id)
 abbrev pub before : List Held → Option ClauseId → List Held
 before [] end = []
 before (clause ∷ rest) None = clause ∷ rest
-before (clause ∷ rest) (Some id) = cond (clause.id == id.0) [] (clause ∷ before rest (Some id))
+before (clause ∷ rest) (Some id) = if clause.id == id.0 then [] else (clause ∷ before rest (Some id))
 
 -- all clauses but that of an id
 abbrev pub without : ℕ → List Held → List Held

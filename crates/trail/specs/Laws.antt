@@ -1,14 +1,14 @@
 -- Facts on trails that every crate above may cite.
-use Rattle.std.proofs.Common.{◌≡◌, ◌<◌, ◌≤◌, ◌+◌, ◌^◌, ℕ, min, Bool, true, false, cond, not, eqb, leb, ltb, ◌&&◌, ◌||◌, ◌⊎◌, List, [], ◌∷◌, length, drop, map, filter, Option, Some, None, refl, sym, ap, subst, ◌∙◌, ⊎_elim, inl, inr, arith, ltb-true, eq-eqb, ne_eqb, lt-ltb}
+use Rattle.std.proofs.Common.{◌≡◌, ◌<◌, ◌≤◌, ◌+◌, ◌^◌, ℕ, suc, min, Bool, true, false, cond, not, eqb, leb, ltb, ◌&&◌, ◌||◌, ◌⊎◌, List, [], ◌∷◌, ◌++◌, length, take, drop, map, filter, Option, Some, None, refl, sym, ap, subst, ◌∙◌, ⊎_elim, inl, inr, arith, ltb-true, eq-eqb, ne_eqb, lt-ltb}
 use Rattle.std.proofs.lemmas.Bool.{and_parts, and_from, or_cases, or_left, or_right, eqb-true, leb-true, le-leb, false≢true, not-true, cases_lt, true≢false, eqb-false}
 use Rattle.std.proofs.lemmas.Map.Steps.{length-le_from_distinct_below}
-use Rattle.std.proofs.lemmas.List.{length-map}
+use Rattle.std.proofs.lemmas.List.{length-map, length-reverse, reverse-append, take-append-le, take_all}
 use Rattle.std.specs.Bool.{beq}
 use Rattle.std.specs.Option.{is_some}
 use Rattle.std.specs.List.{list_any, list_all, IsDistinct, AllByRecursion}
 use Rattle.sat_lits.specs.declared.literal.InLit.{InLit}
 use Rattle.trail.specs.declared.trail.Step.{Step}
-use Rattle.trail.specs.Trail.{Assignment, IsKept, true_in, false_in, set_in, step_in, value_in, level_of, decided, shaped, shaped_step, back_to}
+use Rattle.trail.specs.Trail.{Assignment, IsKept, lits_of, true_in, false_in, set_in, step_in, value_in, level_of, decided, shaped, shaped_step, back_to}
 
 -- the variable of a step is new
 pub step_new : (older : List Step) (s : Step) → shaped_step older s ≡ true → set_in older s.lit.var.0 ≡ false
@@ -92,6 +92,39 @@ level_of-back_to (s ∷ older) k e =
   where
     lower : k < s.level → (s.level ≡ level_of older) ⊎ ((s.level ≡ level_of older + 1) × (decided s.reason ≡ true)) → min k (level_of older) ≡ min k s.level
     lower a q = ⊎_elim (λ (f : s.level ≡ level_of older). omega arith) (λ (f : (s.level ≡ level_of older + 1) × (decided s.reason ≡ true)). omega arith) q
+
+-- the newest literal stands last
+pub lits_of-newest : (older : List Step) (s : Step) → lits_of (s ∷ older) ≡ lits_of older ++ s.lit ∷ []
+lits_of-newest older s = reverse-append (s.lit ∷ []) (map (λ r. r.lit) older)
+
+length-lits_of : (t : List Step) → length (lits_of t) ≡ length t
+length-lits_of t = length-reverse (map (λ s. s.lit) t) ∙ length-map t (λ s. s.lit)
+
+length-back_to : (t : List Step) (k : ℕ) → length (back_to k t) ≤ length t
+length-back_to [] k = omega arith
+length-back_to (s ∷ older) k = go (leb s.level k) (length-back_to older k)
+  where
+    go : (b : Bool) → length (back_to k older) ≤ length older → length (cond b (s ∷ back_to k older) (back_to k older)) ≤ suc (length older)
+    go true h = omega arith
+    go false h = omega arith
+
+-- the way back leaves a front of the literals
+pub lits_of-back_to : (t : List Step) (k : ℕ) → shaped t ≡ true → lits_of (back_to k t) ≡ take (length (back_to k t)) (lits_of t)
+lits_of-back_to [] k e = refl
+lits_of-back_to (s ∷ older) k e =
+    let p : (shaped_step older s ≡ true) × (shaped older ≡ true) = and_parts _ _ e in
+    ⊎_elim (λ (a : k < s.level). lower a (lits_of-back_to older k p.1)) (λ (a : s.level ≤ k). whole (back_nowhere (s ∷ older) k e a)) (cases_lt k s.level)
+  where
+    lower : k < s.level → lits_of (back_to k older) ≡ take (length (back_to k older)) (lits_of older) → lits_of (back_to k (s ∷ older)) ≡ take (length (back_to k (s ∷ older))) (lits_of (s ∷ older))
+    lower a i =
+        let n : length (back_to k older) ≤ length (lits_of older) = omega (arith, length-back_to older k, length-lits_of older) in
+        subst (λ (z : List Step). lits_of z ≡ take (length z) (lits_of (s ∷ older))) (sym (back_past older s k a))
+        (i ∙ (sym (take-append-le (length (back_to k older)) (lits_of older) (s.lit ∷ []) n) ∙ ap (take (length (back_to k older))) (sym (lits_of-newest older s))))
+
+    whole : back_to k (s ∷ older) ≡ s ∷ older → lits_of (back_to k (s ∷ older)) ≡ take (length (back_to k (s ∷ older))) (lits_of (s ∷ older))
+    whole w =
+        subst (λ (z : List Step). lits_of z ≡ take (length z) (lits_of (s ∷ older))) (sym w)
+        (sym (take_all (length (s ∷ older)) (lits_of (s ∷ older)) (omega (arith, length-lits_of (s ∷ older)))))
 
 -- a step of the present level may follow
 pub shaped_step-assign : (older : List Step) (s : Step) → set_in older s.lit.var.0 ≡ false → s.level ≡ level_of older → shaped_step older s ≡ true

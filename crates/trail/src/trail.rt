@@ -5,7 +5,7 @@ use sat_lits::{ClauseId, InLit, Inner, NoMemory};
 use std::alloc::Global;
 use std::marker::Model;
 
-/// An assigned literal with its level and the clause that gave it, if a clause did.
+/// An assigned literal with its level and its reason, the clause that gave it, if a clause did.
 #[derive(Clone, Copy, Debug, PartialEq, Eq)]
 pub struct Step {
     pub lit: InLit,
@@ -104,7 +104,8 @@ impl Trail {
         }
     }
 
-    /// Whether a literal is true, or None exactly where its variable is unset.
+    /// Whether a literal is true, or None exactly where its variable is unset, which one that is not
+    /// reserved always is.
     pub fn value(&self, lit: InLit) -> Option<bool>
         ensures { result ≡ value_in self.now.steps lit }
     {
@@ -126,7 +127,7 @@ impl Trail {
         self.step_of(var)?.reason
     }
 
-    /// The present level: how many decisions stand.
+    /// The present level, which is that of the newest literal, or 0 where none is assigned.
     pub fn level(&self) -> u32
         ensures value { result ≡ level_of self.now.steps }
         ensures kept { IsKept self.now }
