@@ -1,0 +1,4 @@
+pub mod Tables
+pub mod FreeNumbers
+pub mod Pairs
+pub mod Matching

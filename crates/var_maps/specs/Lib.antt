@@ -1,0 +1,4 @@
+pub mod Numbers
+pub mod KeptNumbers
+pub mod Maps
+pub mod Kept
