@@ -1,15 +1,15 @@
 -- The maps after a change.
-use Rattle.std.proofs.Common.{◌≡◌, ◌≢◌, ℕ, ◌+◌, ◌<◌, ◌≤◌, ◌^◌, ◌==◌, Bool, true, false, cond, List, [], ◌∷◌, ◌++◌, Option, Some, None, refl, sym, ap, subst, ◌∙◌, arith, length, get_or, set, eqb-true, length-append, length-set}
+use Rattle.std.proofs.Common.{◌≡◌, ℕ, ◌+◌, ◌<◌, ◌≤◌, ◌^◌, ◌==◌, Bool, true, false, cond, List, [], ◌∷◌, ◌++◌, Option, Some, None, refl, sym, ap, subst, ◌∙◌, arith, length, get_or, set, eqb-true, length-append, length-set}
 use Rattle.std.specs.Option.{is_some}
-use Rattle.std.specs.List.{slice_get, list_all}
+use Rattle.std.specs.List.{slice_get}
 use Rattle.sat_lits.specs.declared.literal.Own.{Own}
 use Rattle.sat_lits.specs.declared.literal.Inner.{Inner}
 use Rattle.sat_lits.specs.declared.literal.Var.{Var}
 use Rattle.var_maps.specs.Numbers.{Numbers, Taken, used}
-use Rattle.var_maps.specs.Maps.{Maps, Matched, HasFree, Added, Revived, retired, number_or, plain, inner_at, outer_at, owner_at}
+use Rattle.var_maps.specs.Maps.{Maps, Matched, HasFree, Added, Revived, plain, inner_at, outer_at, owner_at}
 use Rattle.var_maps.specs.Kept.{Counted}
 use Rattle.var_maps.proofs.Tables.{get_or-push, slice_get-push, get_or-written, past_none, slice_past, some_within, used-push, used-filled, used-cleared, used_lt, used_full}
-use Rattle.var_maps.proofs.Pairs.{Leads, leads_more, leads_less, leads_same}
+use Rattle.var_maps.proofs.Pairs.{leads_more, leads_less, leads_same}
 
 -- a variable by its number, and the number of a variable
 abbrev own : ℕ → Own
@@ -105,7 +105,7 @@ added_counted m n i h few u p o =
     record {
       few = omega (arith, l, few);
       outer_count = omega (arith, l, o, h.outer_count);
-      used = u ∙ (ap (λ (z : ℕ). z + 1) h.used ∙ (sym (used-push m.inners i) ∙ sym (ap used p)));
+      in_use = u ∙ (ap (λ (z : ℕ). z + 1) h.in_use ∙ (sym (used-push m.inners i) ∙ sym (ap used p)));
     }
 
 -- a table that grows only where it is full stays as short as one with more entries
@@ -124,7 +124,7 @@ revived_matched m n v i h c t there e full p q r = record {
   inner_len =
       let l : length n.inners ≡ length m.inners = ap length p ∙ length-set m.inners v.0 (Some i) in
       let a : used m.inners < length m.inners = used_lt m.inners v.0 there e in
-      fits (length m.owners) (length n.owners) (length m.inners) (length n.inners) (used m.owners) t.by_one h.inner_len (let d : used m.owners ≡ used m.inners = c.used in omega arith) l full;
+      fits (length m.owners) (length n.owners) (length m.inners) (length n.inners) (used m.owners) t.by_one h.inner_len (let d : used m.owners ≡ used m.inners = c.in_use in omega arith) l full;
 }
   where
     outers : (j : ℕ) → outer_at n j ≡ outer_at m j
@@ -142,7 +142,7 @@ revived_counted m n v i h there e u p r =
     record {
       few = omega (arith, l, h.few);
       outer_count = omega (arith, l, h.outer_count, ap length r);
-      used = u ∙ (ap (λ (z : ℕ). z + 1) h.used ∙ (sym (used-filled m.inners v.0 i there e) ∙ sym (ap used p)));
+      in_use = u ∙ (ap (λ (z : ℕ). z + 1) h.in_use ∙ (sym (used-filled m.inners v.0 i there e) ∙ sym (ap used p)));
     }
 
 some_there : {X : Type 0} (o : Option X) (x : X) → o ≡ Some x → is_some o ≡ true
@@ -182,7 +182,7 @@ retired_counted m n k i h c e p q r =
     record {
       few = omega (arith, l, c.few);
       outer_count = omega (arith, l, c.outer_count, ap length r);
-      used = omega (arith, a, b, c.used);
+      in_use = omega (arith, a, b, c.in_use);
     }
 
 -- what is said of an addition does not look at the room

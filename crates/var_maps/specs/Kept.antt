@@ -14,13 +14,13 @@ maps_of p = record {
   spare = min (min (vec_capacity p.inners - vec_len p.inners) (vec_capacity p.outer_numbers - vec_len p.outer_numbers)) (min (vec_capacity p.outers - vec_len p.outers) p.numbers.spare);
 }
 
--- there are at most 2^31 variables, no more outer ones than variables, and as many numbers in use as active variables
+-- there are at most 2^31 variables, no more outer ones, and as many numbers are in use as variables are active
 pub record Counted (m : Maps) : Type 0 where
   pub few : length m.inners ≤ 2 ^ 31
   pub outer_count : length m.outers ≤ length m.inners
-  pub used : used m.owners ≡ used m.inners
+  pub in_use : used m.owners ≡ used m.inners
 
--- the tables match, and what they hold is counted
+-- the tables match, and the counts are right
 pub record IsKept (p : Inside) : Type 0 where
   pub matched : Matched (maps_of p)
   pub counted : Counted (maps_of p)

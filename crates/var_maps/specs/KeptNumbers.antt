@@ -7,7 +7,7 @@ use Rattle.var_maps.specs.declared.numbers.InnerNumbers.TheInside.{Inside}
 abbrev pub numbers_of : Inside → Numbers
 numbers_of p = record { owners = p.owners.items; spare = min (vec_capacity p.owners - vec_len p.owners) (vec_capacity p.free - vec_len p.owners) }
 
--- the free numbers are listed, and the list has room for all numbers
+-- the second table has the free numbers, and room for all numbers
 pub record IsKept (p : Inside) : Type 0 where
   pub free : AreFree p.owners.items p.free.items
   pub room : vec_len p.owners ≤ vec_capacity p.free

@@ -59,11 +59,12 @@ pub record Added (outer : Option Var) (v : Own) (m n : Maps) : Type 0 where
   pub outer_numbers : n.outer_numbers ≡ m.outer_numbers ++ outer ∷ []
   pub numbered : HasFree v inner m.owners n.owners
 
--- the number that the variable had is free
+-- the inner number, or d where there is none
 abbrev pub number_or : ℕ → Option Inner → ℕ
 number_or d None = d
 number_or d (Some i) = i.0
 
+-- the variable is not active, and the inner number that it had is free
 abbrev pub retired : ℕ → Maps → Maps
 retired k m = record m { inners = slice_set m.inners k None; owners = slice_set m.owners (number_or 0 (inner_at m k)) None }
 

@@ -1,7 +1,7 @@
-use Rattle.std.proofs.Common.{◌≡◌, ◌<◌, ◌≤◌, ◌+◌, ◌^◌, ◌++◌, ◌∷◌, [], List, Option, Some, None, length, sym, ap, ◌∙◌, subst, refl, arith}
+use Rattle.std.proofs.Common.{◌≡◌, ◌<◌, ◌^◌, ◌++◌, ◌∷◌, [], Some, None, length, sym, ap, ◌∙◌, subst, refl, arith}
 use Rattle.sat_lits.specs.declared.literal.Own.{Own}
 use Rattle.sat_lits.specs.declared.literal.Inner.{Inner}
-use Rattle.var_maps.specs.Maps.{Maps, Added, plain}
+use Rattle.var_maps.specs.Maps.{Maps, plain}
 use Rattle.var_maps.specs.Kept.{maps_of}
 use Rattle.var_maps.proofs.FreeNumbers.{pushed}
 use Rattle.var_maps.proofs.Matching.{taken_free, private_added, added_matched, added_counted, added_plain}

@@ -1,7 +1,6 @@
-use Rattle.std.proofs.Common.{◌≡◌, ◌<◌, ◌++◌, ◌∷◌, [], List, Option, Some, None, true, length, get_or, sym, ap, ◌∙◌, subst, refl, arith}
+use Rattle.std.proofs.Common.{◌≡◌, Some, None, true, get_or, ap, ◌∙◌, refl}
 use Rattle.std.specs.Option.{is_some}
 use Rattle.std.specs.Vec.{with_item}
-use Rattle.sat_lits.specs.declared.literal.Inner.{Inner}
 use Rattle.var_maps.specs.Maps.{Maps, inner_at}
 use Rattle.var_maps.specs.Kept.{maps_of}
 use Rattle.var_maps.proofs.Tables.{some_within, read_some}

@@ -1,7 +1,6 @@
-use Rattle.std.proofs.Common.{◌≡◌, ◌<◌, Option, Some, None, length, sym, ap, ◌∙◌, subst, refl, arith}
+use Rattle.std.proofs.Common.{◌≡◌, ◌<◌, Some, None, length, sym, ap, ◌∙◌, subst, refl}
 use Rattle.std.specs.Vec.{with_item}
-use Rattle.sat_lits.specs.declared.literal.Inner.{Inner}
-use Rattle.var_maps.specs.Maps.{Maps, HasFree, Revived, inner_at, plain}
+use Rattle.var_maps.specs.Maps.{Maps, inner_at, plain}
 use Rattle.var_maps.specs.Kept.{maps_of}
 use Rattle.var_maps.proofs.Matching.{taken_free, revived_matched, revived_counted, revived_plain}
 use Rattle.var_maps.proofs.maps.VarMaps.revive.Goals as goal

@@ -1,7 +1,7 @@
-use Rattle.std.proofs.Common.{◌≡◌, ◌<◌, ◌++◌, ◌∷◌, [], List, Option, Some, None, true, length, get_or, sym, ap, ◌∙◌, subst, arith}
+use Rattle.std.proofs.Common.{◌≡◌, ◌<◌, ◌++◌, ◌∷◌, [], Some, None, true, length, get_or, ap, ◌∙◌, arith}
 use Rattle.std.specs.Option.{is_some}
 use Rattle.sat_lits.specs.declared.literal.Own.{Own}
-use Rattle.var_maps.specs.Numbers.{Numbers, AreFree}
+use Rattle.var_maps.specs.Numbers.{Numbers}
 use Rattle.var_maps.proofs.Tables.{some_within}
 use Rattle.var_maps.proofs.FreeNumbers.{given_free, some_used, some_value, pushed}
 use Rattle.var_maps.proofs.numbers.InnerNumbers.give_back.Goals as goal

@@ -1,6 +1,5 @@
-use Rattle.std.proofs.Common.{◌≡◌, ◌≤◌, ◌++◌, ◌∷◌, [], List, Option, Some, None, length, sym, ap, ◌∙◌, subst, refl, arith}
+use Rattle.std.proofs.Common.{◌≡◌, ◌≤◌, ◌++◌, ◌∷◌, [], List, Some, sym, ◌∙◌, subst, refl, arith}
 use Rattle.std.specs.Vec.{with_item}
-use Rattle.sat_lits.specs.declared.literal.Own.{Own}
 use Rattle.sat_lits.specs.declared.literal.Inner.{Inner}
 use Rattle.var_maps.specs.Numbers.{Numbers, Taken, AreFree}
 use Rattle.var_maps.specs.KeptNumbers.{numbers_of}
