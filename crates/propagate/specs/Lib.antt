@@ -1,0 +1,6 @@
+pub mod Units
+pub mod Reasons
+pub mod Watching
+pub mod Inside
+pub mod Looks
+pub mod Laws

@@ -1,0 +1,174 @@
+ghost use Rattle.std.specs.Prelude.{◌≡◌, ◌∷◌, ◌++◌, [], true, map, take, option_map, option_to_list, IfOk, OnOk, OnErr, IsTrue, not};
+ghost use Rattle.trail.specs.Trail.{lits_of, IsKept};
+ghost use Rattle.clause_store.specs.Store.{clause_at, is_live};
+ghost use Rattle.propagate.specs.Reasons.{Extends, Follows, names, reasoned};
+ghost use Rattle.propagate.specs.Watching.{HasTaken, IsDone, IsFront, taken_as, is_taken, lits_below, clauses_below, steps_below, is_right};
+
+use crate::look::{look_around, Round};
+use clause_store::ClauseStore;
+use sat_lits::{ClauseId, InLit, List, NoMemory};
+use std::alloc::Global;
+use std::marker::Model;
+use trail::Trail;
+
+/// What propagation came to.
+#[derive(Clone, Copy, Debug, PartialEq, Eq)]
+pub enum Found {
+    /// Every clause has a true literal or two unset ones.
+    Quiet,
+    /// All literals of the clause with this id are false.
+    Conflict(ClauseId),
+}
+
+/// A clause as it was when it was taken over.
+#[derive(Debug, Drop)]
+pub struct Taken {
+    pub id: ClauseId,
+    pub lits: List<InLit>,
+}
+
+/// Finds the literals that the clauses of a store give under a trail.
+///
+/// It takes clauses over from the store before it looks at them, and knows which literals of the
+/// trail it is done with.
+#[derive(Debug, Drop)]
+pub struct Watches {
+    taken: Vec<Taken>,
+    // With room for one literal of each variable.
+    done: Vec<InLit>,
+    variables: u32,
+}
+
+impl Model for Watches {
+    ghost use Rattle.propagate.specs.Watching.{Watching};
+
+    ghost Value = { Watching };
+
+    ghost use Rattle.propagate.specs.Inside.{watching_of, HasRoom};
+
+    ghost view = { watching_of };
+
+    ghost invariant = { HasRoom };
+}
+
+impl Watches {
+    /// Watches of no clause and no variable. It takes no memory.
+    pub fn new(alloc: Global) -> Watches
+        ensures { result ≡ record { taken = []; done = []; variables = 0 } }
+    {
+        Watches {
+            taken: Vec::new(alloc),
+            done: Vec::new(alloc),
+            variables: 0,
+        }
+    }
+
+    /// Takes over all clauses of a store in place of those before, where their variables are below a
+    /// number. No literal is done with then. The only error is want of memory, and nothing changes
+    /// then.
+    pub fn prepare(&mut self, store: &ClauseStore, variables: u32) -> Result<(), NoMemory>
+        requires { IsTrue (clauses_below variables store.now.held) }
+        ensures ok { OnOk result (self.new ≡ record { taken = map taken_as store.now.held; done = []; variables = variables }) }
+        ensures err { OnErr result (self.new ≡ self.old) }
+    {
+        let alloc = *self.done.allocator();
+        let taken = take_all_over(alloc, store)?;
+        let done = Vec::with_capacity(alloc, variables as usize)?;
+        *self = Watches {
+            taken,
+            done,
+            variables,
+        };
+        Ok(())
+    }
+
+    /// Takes over one more clause, under whose id none was taken over, where its variables are below
+    /// the number that `prepare` was given. The only error is want of memory, and nothing changes
+    /// then.
+    pub fn attach(&mut self, store: &ClauseStore, id: ClauseId) -> Result<(), NoMemory>
+        requires live { IsTrue (is_live store.now.held id.0) }
+        requires fresh { IsTrue (not (is_taken self.old.taken id.0)) }
+        requires variables { IsTrue (names store.now.held id (lits_below self.old.variables)) }
+        ensures ok { OnOk result (self.new ≡ record self.old { taken = self.old.taken ++ map taken_as (option_to_list (clause_at store.now.held id.0)) }) }
+        ensures err { OnErr result (self.new ≡ self.old) }
+    {
+        let clause = take_over(*self.done.allocator(), store, id)?;
+        self.taken.push(clause)?;
+        Ok(())
+    }
+
+    /// Keeps the first `keep` literals that it is done with, or all where there are fewer. To be
+    /// called where a trail goes back, with the number of literals that stay.
+    pub fn rewind(&mut self, keep: usize)
+        ensures { self.new ≡ record self.old { done = take keep self.old.done } }
+    {
+        self.done.truncate(keep);
+    }
+
+    /// Assigns the literals that clauses give, each with its clause as the reason, until a clause is
+    /// false or no clause is unit. It takes no memory.
+    ///
+    /// All live clauses have to be taken over as they are now, their variables have to be reserved
+    /// in the trail and below the number that `prepare` was given, the variables of the trail too,
+    /// and what it is done with has to be the beginning of the trail.
+    pub fn propagate(&mut self, store: &ClauseStore, trail: &mut Trail) -> Found
+        requires taken { HasTaken self.old.taken store.now.held }
+        requires reserved { IsTrue (clauses_below trail.old.reserved store.now.held) }
+        requires clauses { IsTrue (clauses_below self.old.variables store.now.held) }
+        requires steps { IsTrue (steps_below self.old.variables trail.old.steps) }
+        requires done { IsFront self.old.done (lits_of trail.old.steps) }
+        ensures found { IsTrue (is_right store.now.held trail.new.steps result) }
+        ensures extends { Extends store.now.held trail.old.steps trail.new.steps }
+        ensures reserved { trail.new.reserved ≡ trail.old.reserved }
+        ensures reasoned { reasoned store.now.held trail.old.steps ≡ true → reasoned store.now.held trail.new.steps ≡ true }
+        ensures follows { Follows store.now.held trail.old.steps trail.new.steps }
+        ensures done { IsDone self.new.done (lits_of trail.new.steps) result }
+        ensures same { self.new ≡ record self.old { done = self.new.done } }
+    {
+        loop {
+            self.follow(trail);
+            match look_around(store, trail) {
+                Round::AllSettled => return Found::Quiet,
+                Round::OneFalse(id) => return Found::Conflict(id),
+                Round::Unit(lit, id) => trail.assign(lit, Some(id)),
+            }
+        }
+    }
+
+    /// Is done with all literals of a trail.
+    fn follow(&mut self, trail: &Trail)
+        requires steps { IsTrue (steps_below self.old.variables trail.now.steps) }
+        requires done { IsFront self.old.done (lits_of trail.now.steps) }
+        ensures done { self.new ≡ record self.old { done = lits_of trail.now.steps } }
+        ensures kept { IsKept trail.now }
+    {
+        let lits = trail.lits();
+        for place in self.done.len()..lits.len() {
+            self.done.push_reserved(lits[place]);
+        }
+    }
+}
+
+/// All clauses of a store, in order.
+fn take_all_over(alloc: Global, store: &ClauseStore) -> Result<Vec<Taken>, NoMemory>
+    ensures { IfOk result (λ taken. taken.items ≡ map taken_as store.now.held) }
+{
+    let mut taken = Vec::new(alloc);
+    let mut next = store.first();
+    'walk: while let Some(id) = next {
+        taken.push(take_over(alloc, store, id)?)?;
+        next = store.after(id);
+    }
+    Ok(taken)
+}
+
+/// The clause of a live id.
+fn take_over(alloc: Global, store: &ClauseStore, id: ClauseId) -> Result<Taken, NoMemory>
+    requires { IsTrue (is_live store.now.held id.0) }
+    ensures { IfOk result (λ taken. taken ∷ [] ≡ map taken_as (option_to_list (clause_at store.now.held id.0))) }
+{
+    Ok(Taken {
+        id,
+        lits: List::from_slice(alloc, store.lits(id))?,
+    })
+}
