@@ -1,7 +1,7 @@
 -- Propagation, one literal after another.
-use Rattle.std.proofs.Common.{◌≡◌, ◌<◌, ◌≤◌, ◌+◌, ◌-◌, ℕ, Bool, true, false, cond, not, eqb, ltb, ◌&&◌, ◌||◌, List, [], ◌∷◌, ◌++◌, length, map, take, min, reverse, Some, None, refl, sym, ap, subst, ◌∙◌, arith, eq-eqb, ltb-true, lt-ltb}
+use Rattle.std.proofs.Common.{◌≡◌, ◌<◌, ◌≤◌, ◌+◌, ◌-◌, ℕ, true, ltb, ◌||◌, List, [], ◌∷◌, length, map, take, min, Some, refl, sym, ap, subst, ◌∙◌, arith, eq-eqb, ltb-true, lt-ltb}
 use Rattle.std.proofs.Math.Seq.{take-append_seam, take-length}
-use Rattle.std.proofs.lemmas.Bool.{and_parts, and_from, or_left, not-true}
+use Rattle.std.proofs.lemmas.Bool.{and_parts, and_from, not-true}
 use Rattle.std.proofs.lemmas.List.{reverse-append, length-map, length-reverse, length-take}
 use Rattle.std.specs.List.{list_any, list_all}
 use Rattle.sat_lits.specs.InLits.{same_lit}
@@ -9,11 +9,11 @@ use Rattle.sat_lits.specs.ListLaws.{all_or_any}
 use Rattle.sat_lits.specs.declared.literal.InLit.{InLit}
 use Rattle.sat_lits.specs.declared.literal.ClauseId.{ClauseId}
 use Rattle.trail.specs.declared.trail.Step.{Step}
-use Rattle.trail.specs.Trail.{Assignment, IsKept, lits_of, level_of, set_in, unset_in, shaped, false_in}
+use Rattle.trail.specs.Trail.{Assignment, IsKept, lits_of, level_of, unset_in, shaped, false_in}
 use Rattle.trail.specs.Laws.{steps_within, shaped_step-assign}
 use Rattle.clause_store.specs.Store.{Held}
 use Rattle.propagate.specs.Units.{gives, unit_by}
-use Rattle.propagate.specs.Reasons.{names, unit_reason, derives, Extends}
+use Rattle.propagate.specs.Reasons.{names, unit_reason, Extends}
 use Rattle.propagate.specs.Watching.{Watching, IsFront, lits_below, clauses_below, steps_below}
 use Rattle.propagate.specs.Laws.{named_all, unit_named, extends_level}
 use Rattle.propagate.proofs.Looking.{same_lit_eq}

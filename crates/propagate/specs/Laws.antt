@@ -1,7 +1,6 @@
 -- Facts on propagation that every crate above may cite.
-use Rattle.std.proofs.Common.{◌≡◌, ℕ, Bool, true, false, cond, not, eqb, ◌&&◌, ◌||◌, List, [], ◌∷◌, ◌++◌, Option, Some, None, refl, sym, ap, subst, ◌∙◌, ⊎_elim, eq-eqb}
-use Rattle.std.proofs.lemmas.Bool.{and_parts, and_from, or_cases, or_left, eqb-true, false≢true, both_ways}
-use Rattle.std.proofs.lemmas.Option.{same_Some, none-some}
+use Rattle.std.proofs.Common.{◌≡◌, ℕ, Bool, true, false, cond, not, eqb, ◌&&◌, ◌||◌, List, [], ◌∷◌, ◌++◌, Option, Some, None, refl, sym, ap, subst, ◌∙◌, ⊎_elim}
+use Rattle.std.proofs.lemmas.Bool.{and_parts, and_from, or_cases, eqb-true, false≢true, both_ways}
 use Rattle.std.specs.List.{list_any, list_all}
 use Rattle.sat_lits.specs.InLits.{same_lit, opposite}
 use Rattle.sat_lits.specs.ListLaws.{all_or_any}
@@ -10,7 +9,7 @@ use Rattle.sat_lits.specs.Truth.{clause_value}
 use Rattle.sat_lits.specs.declared.literal.InLit.{InLit}
 use Rattle.sat_lits.specs.declared.literal.ClauseId.{ClauseId}
 use Rattle.trail.specs.declared.trail.Step.{Step}
-use Rattle.trail.specs.Trail.{false_in, unset_in, level_of, shaped}
+use Rattle.trail.specs.Trail.{false_in, unset_in, level_of}
 use Rattle.clause_store.specs.Store.{Held, clause_at}
 use Rattle.propagate.specs.Units.{gives, unit_by}
 use Rattle.propagate.specs.Reasons.{names, passes, has_reason, reasoned, unit_reason, derives, Extends, lit_value, steps_value, held_value, Follows}

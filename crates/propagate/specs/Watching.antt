@@ -1,5 +1,5 @@
 -- What contracts see of watches.
-use Rattle.std.specs.Prelude.{◌≡◌, ℕ, ◌==◌, nat_lt, Bool, true, List, map, take, length, find, Option, option_map, is_some}
+use Rattle.std.specs.Prelude.{◌≡◌, ℕ, ◌==◌, nat_lt, Bool, true, List, take, length, find, Option, option_map, is_some}
 use Rattle.std.specs.List.{list_all}
 use Rattle.sat_lits.specs.declared.literal.InLit.{InLit}
 use Rattle.trail.specs.declared.trail.Step.{Step}

@@ -1,4 +1,4 @@
-use Rattle.std.proofs.Common.{◌≡◌, ◌≤◌, ◌∙◌, length, ap, arith, vec_len, vec_capacity}
+use Rattle.std.proofs.Common.{◌≡◌, ◌≤◌, length, ap, arith, vec_len, vec_capacity}
 use Rattle.trail.specs.Trail.{lits_of}
 use Rattle.propagate.specs.Watching.{Watching}
 use Rattle.propagate.proofs.Rounding.{lits_within, room_left}

@@ -1,4 +1,4 @@
-use Rattle.std.proofs.Common.{◌≡◌, ◌≤◌, take, length, vec_capacity}
+use Rattle.std.proofs.Common.{◌≡◌, ◌≤◌, take, vec_capacity}
 use Rattle.propagate.proofs.watches.Watches.follow.Given as goal
 
 abbrev pub invariant-loop-place : goal.invariant-loop-place
