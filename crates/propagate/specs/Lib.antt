@@ -4,3 +4,4 @@ pub mod Watching
 pub mod Inside
 pub mod Looks
 pub mod Laws
+pub mod TakenLaws

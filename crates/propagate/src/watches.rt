@@ -66,9 +66,11 @@ impl Watches {
     /// Takes over all clauses of a store in place of those before, where their variables are below a
     /// number. No literal is done with then. The only error is want of memory, and nothing changes
     /// then.
+    #[tactic(auto, using(crate::specs::TakenLaws::takes_all))]
     pub fn prepare(&mut self, store: &ClauseStore, variables: u32) -> Result<(), NoMemory>
         requires { IsTrue (clauses_below variables store.now.held) }
         ensures ok { OnOk result (self.new ≡ record { taken = map taken_as store.now.held; done = []; variables = variables }) }
+        ensures taken { OnOk result (HasTaken self.new.taken store.now.held) }
         ensures err { OnErr result (self.new ≡ self.old) }
     {
         let alloc = *self.done.allocator();
