@@ -43,7 +43,6 @@ find_right {X = X} p (y ∷ xs) ys e = go (p y) e (λ (f : find p xs ≡ None). 
 pub takes_more : (taken : List Taken) (held : List Held) (h : Held) → HasTaken taken held → is_taken taken h.id ≡ false → HasTaken (taken ++ taken_as h ∷ []) (held ++ h ∷ [])
 takes_more taken held h k n id live = go (clause_at held id) refl
   where
-
     same : (b : Bool) → option_map (λ (t : Taken). t.lits) (cond b (Some (taken_as h)) None) ≡ option_map (λ (g : Held). g.lits) (cond b (Some h) None)
     same true = refl
     same false = refl

@@ -4,7 +4,7 @@ ghost use Rattle.clause_store.specs.Store.{clause_at, is_live};
 ghost use Rattle.propagate.specs.Reasons.{Extends, Follows, names, reasoned};
 ghost use Rattle.propagate.specs.Watching.{HasTaken, IsDone, IsFront, taken_as, is_taken, lits_below, clauses_below, steps_below, is_right};
 
-use crate::look::{look_around, Round};
+use crate::look::{Round, look_around};
 use clause_store::ClauseStore;
 use sat_lits::{ClauseId, InLit, List, NoMemory};
 use std::alloc::Global;

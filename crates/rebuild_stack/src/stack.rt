@@ -55,7 +55,7 @@ impl RebuildStack {
 
     /// Rebuilds the values of the variables that the entries name, from the newest entry to the
     /// oldest. `values` has the value of each own variable, by its number. It takes no memory, and
-    /// time in the number of the entries' literals.
+    /// time linear in the number of the entries' literals.
     pub fn rebuild(&self, values: &mut [bool])
         requires { list_all (is_within (length values.old)) self.now ≡ true }
         ensures { values_of values.new ≡ rebuild self.now (values_of values.old) }

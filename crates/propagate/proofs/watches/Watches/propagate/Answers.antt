@@ -25,9 +25,9 @@ assign-requires-clause-reserved c =
 pub loop-id-smaller : goal.loop-id-smaller
 loop-id-smaller c =
     let r : c.in-Unit.lit.var.0 < c.loop-id.trail.reserved =
-        unit_reserved c.loop-id.trail.reserved c.args.store.now.held c.loop-id.trail.steps c.in-Unit.lit c.in-Unit.id
-        (subst (λ (n : ℕ). clauses_below n c.args.store.now.held ≡ true) (sym c.loop-id.invariant.reserved) c.requires.reserved)
-        c.in-Unit.ensures in
+    unit_reserved c.loop-id.trail.reserved c.args.store.now.held c.loop-id.trail.steps c.in-Unit.lit c.in-Unit.id
+    (subst (λ (n : ℕ). clauses_below n c.args.store.now.held ≡ true) (sym c.loop-id.invariant.reserved) c.requires.reserved)
+    c.in-Unit.ensures in
     round_smaller c.loop-id.trail c.assign.new.self c.in-Unit.lit c.in-Unit.id c.follow.ensures.kept r (unit_named c.args.store.now.held c.loop-id.trail.steps c.in-Unit.lit c.in-Unit.id c.in-Unit.ensures).0 c.assign.ensures
 
 pub loop-id-preserved : goal.loop-id-preserved
