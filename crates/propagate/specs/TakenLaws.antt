@@ -3,7 +3,7 @@ use Rattle.std.proofs.Common.{◌≡◌, ℕ, Bool, true, false, cond, eqb, List
 use Rattle.std.specs.Option.{is_some}
 use Rattle.std.proofs.lemmas.Bool.{false≢true, true≢false, eqb-true}
 use Rattle.std.proofs.lemmas.Option.{none-some}
-use Rattle.clause_store.specs.Store.{Held, clause_at, is_live}
+use Rattle.clause_store.specs.Store.{Held, clause_at}
 use Rattle.propagate.specs.declared.watches.Taken.{Taken}
 use Rattle.propagate.specs.Watching.{taken_as, taken_at, is_taken, HasTaken}
 

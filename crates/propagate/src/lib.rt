@@ -5,6 +5,8 @@
 #![tactic(auto)]
 
 mod look;
+#[cfg(test)]
+mod tests;
 mod watches;
 
 pub use watches::{Found, Taken, Watches};
