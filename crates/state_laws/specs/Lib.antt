@@ -5,3 +5,8 @@ pub mod Moves
 pub mod Conditions
 pub mod Held
 pub mod Kernel
+pub mod PlaceLaws
+pub mod PutIntoLaws
+pub mod LearnLaws
+pub mod TakeLaws
+pub mod ExtendLaws
