@@ -10,3 +10,5 @@ pub mod PutIntoLaws
 pub mod LearnLaws
 pub mod TakeLaws
 pub mod ExtendLaws
+pub mod HeldLaws
+pub mod ViewLaws
