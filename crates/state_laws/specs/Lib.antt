@@ -12,3 +12,8 @@ pub mod TakeLaws
 pub mod ExtendLaws
 pub mod HeldLaws
 pub mod ViewLaws
+pub mod KernelPutIntoLaws
+pub mod KernelTakeLaws
+pub mod KernelLearnLaws
+pub mod KernelExtendLaws
+pub mod KernelModelLaws

@@ -73,7 +73,8 @@ clauses_of-strip m test (h ∷ hs) = go (test h.learned) (clauses_of-strip m tes
     go true r = ap (λ z. own_clause m h.lits ∷ z) r
     go false r = r
 
-map_map : {X Y Z : Type 0} (g : Y → Z) (f : X → Y) (xs : List X) → map g (map f xs) ≡ map (λ x. g (f x)) xs
+-- a map of a map is one map
+pub map_map : {X Y Z : Type 0} (g : Y → Z) (f : X → Y) (xs : List X) → map g (map f xs) ≡ map (λ x. g (f x)) xs
 map_map g f [] = refl
 map_map g f (x ∷ xs) = ap (λ z. g (f x) ∷ z) (map_map g f xs)
 
