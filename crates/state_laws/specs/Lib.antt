@@ -6,6 +6,7 @@ pub mod Conditions
 pub mod Held
 pub mod Kernel
 pub mod PlaceLaws
+pub mod RootTableLaws
 pub mod PutIntoLaws
 pub mod LearnLaws
 pub mod TakeLaws
