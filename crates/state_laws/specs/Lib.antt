@@ -11,6 +11,9 @@ pub mod PutIntoLaws
 pub mod LearnLaws
 pub mod TakeLaws
 pub mod ExtendLaws
+pub mod ResolutionLaws
+pub mod EliminateLaws
+pub mod RestoreLaws
 pub mod HeldLaws
 pub mod ViewLaws
 pub mod KernelPutIntoLaws
