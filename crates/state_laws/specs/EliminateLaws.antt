@@ -10,14 +10,14 @@ use Rattle.sat_lits.specs.Meaning.{IsModel}
 use Rattle.sat_lits.specs.declared.literal.Own.{Own}
 use Rattle.sat_lits.specs.declared.literal.OwnLit.{OwnLit}
 use Rattle.rebuild_stack.specs.Values.{own_value, each_lit}
-use Rattle.rebuild_stack.specs.Entries.{undo, rebuild, entry_value}
+use Rattle.rebuild_stack.specs.Entries.{undo, entry_value}
 use Rattle.rebuild_stack.specs.PutIn.{is_clean}
 use Rattle.rebuild_stack.specs.CommonLaws.{each_mono, with_value_kept}
 use Rattle.rebuild_stack.specs.RebuildLaws.{rebuild-append}
 use Rattle.rebuild_stack.specs.declared.entry.Entry.TheVariants.{Gone}
 use Rattle.state_laws.specs.State.{State, is_active, outer_part, problem_of}
 use Rattle.state_laws.specs.Stands.{Stands, IsSound, IsComplete, IsPlaced, HasCleanClauses, is_clean_entry}
-use Rattle.state_laws.specs.Resolution.{mentions, rests, joins, resolvents}
+use Rattle.state_laws.specs.Resolution.{mentions, rests, resolvents}
 use Rattle.state_laws.specs.Moves.{eliminated}
 use Rattle.state_laws.specs.PlaceLaws.{placed_push, set_places, active_in, still_active, unmentioned_all}
 use Rattle.state_laws.specs.PutIntoLaws.{clauses_elsewhere}
@@ -53,7 +53,7 @@ eliminated_value : (v : Own) (w : ℕ → Bool) (cs : List (List OwnLit)) → cl
     → clauses_value (own_value (undo (Gone v (filter (mentions v.0) cs)) w)) cs ≡ true
 eliminated_value v w cs e =
     let p : (clauses_value (own_value w) (filter (λ c. not (mentions v.0 c)) cs) ≡ true) × (clauses_value (own_value w) (resolvents v.0 (filter (mentions v.0) cs)) ≡ true) =
-        and_parts _ _ (sym (clauses_value-append (own_value w) (filter (λ c. not (mentions v.0 c)) cs) (resolvents v.0 (filter (mentions v.0) cs))) ∙ e) in
+    and_parts _ _ (sym (clauses_value-append (own_value w) (filter (λ c. not (mentions v.0 c)) cs) (resolvents v.0 (filter (mentions v.0) cs))) ∙ e) in
     clauses_value-filter (own_value (undo (Gone v (filter (mentions v.0) cs)) w)) (mentions v.0) cs
     ∙ and_from _ _ (flipped_holds w v (filter (mentions v.0) cs) p.1) (clauses_elsewhere w v.0 _ cs ∙ p.0)
 
@@ -76,8 +76,10 @@ eliminated-IsPlaced v s a h =
   where
     gone : List (List OwnLit)
     gone = filter (mentions v.0) s.hard
+
     gone_active : each_lit (λ l. is_active s l.var.0) gone ≡ true
     gone_active = all_filter (list_all (λ (l : OwnLit). is_active s l.var.0)) (mentions v.0) (list_all (λ (l : OwnLit). is_active s l.var.0)) (λ c b m. b) s.hard h.placed.hard
+
     other : (l : OwnLit) → is_active s l.var.0 ≡ true → ((l.var.0 == v.0) || with_value (is_active s) v.0 false l.var.0) ≡ true
     other l b = go (l.var.0 == v.0) refl
       where

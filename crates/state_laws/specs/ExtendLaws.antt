@@ -1,5 +1,5 @@
 -- A state stands when an item is taken with clauses that stand for it, and when own variables are made.
-use Rattle.std.proofs.Common.{◌≡◌, ◌≢◌, ◌⊎◌, ℕ, zero, suc, ◌+◌, ◌<◌, ◌≤◌, ◌==◌, Bool, true, false, cond, ltb, ◌&&◌, ◌||◌, List, [], ◌∷◌, ◌++◌, refl, sym, ap, subst, ◌∙◌, ⊎_elim, arith, length, get_or, map, take, replicate, Option, Some, None, append-nil, append_assoc, eqb-true, ltb-true, lt-ltb, le-ltb, eq-eqb, ne_eqb}
+use Rattle.std.proofs.Common.{◌≡◌, ◌≢◌, ◌⊎◌, ℕ, zero, suc, ◌+◌, ◌<◌, ◌≤◌, ◌==◌, Bool, true, false, cond, ltb, ◌&&◌, ◌||◌, List, [], ◌∷◌, ◌++◌, refl, sym, ap, subst, ◌∙◌, ⊎_elim, arith, length, get_or, map, replicate, Option, Some, None, append-nil, append_assoc, eqb-true, ltb-true, lt-ltb, le-ltb, eq-eqb, ne_eqb}
 use Rattle.std.proofs.Math.Path.{fun_ext}
 use Rattle.std.proofs.lemmas.Bool.{and_parts, and_from, cases_order, cond-true, cond-false, eqb-false, ltb-false}
 use Rattle.std.proofs.lemmas.List.{map-append, length-map, length-append, length_push, get_or_append_left, get_or_push, get_or_past, replicate-append-replicate}
@@ -16,7 +16,7 @@ use Rattle.sat_lits.specs.declared.literal.OwnLit.{OwnLit}
 use Rattle.sat_lits.specs.declared.formula.Item.{Item}
 use Rattle.sat_lits.specs.declared.formula.Item.TheVariants.{Clause}
 use Rattle.sat_lits.specs.declared.shared.Shared.{Shared}
-use Rattle.rebuild_stack.specs.Values.{own_value, each_lit}
+use Rattle.rebuild_stack.specs.Values.{own_value}
 use Rattle.rebuild_stack.specs.Entries.{rebuild, times_named}
 use Rattle.rebuild_stack.specs.PutIn.{is_clean}
 use Rattle.rebuild_stack.specs.CommonLaws.{each_mono, cond_at}
@@ -31,7 +31,7 @@ use Rattle.state_laws.specs.PlaceLaws.{one_if}
 before_taking : (s : State) (item : Item) (cs : List (List OwnLit)) (w : ℕ → Bool) → Accords (taking item cs s) w → (Accords s w) × (satisfies (outer_part s.definitions w) item ≡ true)
 before_taking s item cs w a =
     let p : (list_all (satisfies (outer_part s.definitions w)) s.items ≡ true) × ((satisfies (outer_part s.definitions w) item && true) ≡ true) =
-        and_parts _ _ (sym (list_all-append (satisfies (outer_part s.definitions w)) s.items (item ∷ [])) ∙ a.items) in
+    and_parts _ _ (sym (list_all-append (satisfies (outer_part s.definitions w)) s.items (item ∷ [])) ∙ a.items) in
     let q : (satisfies (outer_part s.definitions w) item ≡ true) × (true ≡ true) = and_parts _ _ p.1 in
     (record { defined = a.defined; items = p.0; entries = a.entries }, q.0)
 
@@ -115,9 +115,10 @@ entries_same s d w h =
 before_extended : (d : Option Definition) (cs : List (List OwnLit)) (s : State) (w : ℕ → Bool) → IsInRange s → Accords (extended d cs s) w → (Accords s w) × (is_as_defined w (length s.definitions) d ≡ true)
 before_extended d cs s w r a =
     let p : (are_as_defined w 0 s.definitions ≡ true) × ((is_as_defined w (0 + length s.definitions) d && true) ≡ true) = and_parts _ _ (sym (are_as_defined-append w 0 s.definitions (d ∷ [])) ∙ a.defined) in
-    let q : (is_as_defined w (0 + length s.definitions) d ≡ true) × (true ≡ true) = and_parts _ _ p.1 in
-    (record { defined = p.0; items = sym (items_same s d w r.items) ∙ a.items; entries = sym (entries_same s d w r.entries) ∙ a.entries },
-    subst (λ k. is_as_defined w k d ≡ true) (let e : 0 + length s.definitions ≡ length s.definitions = omega arith in e) q.0)
+    let q : (is_as_defined w (0 + length s.definitions) d ≡ true) × (true ≡ true) = and_parts _ _ p.1 in (
+      record { defined = p.0; items = sym (items_same s d w r.items) ∙ a.items; entries = sym (entries_same s d w r.entries) ∙ a.entries },
+      subst (λ k. is_as_defined w k d ≡ true) (let e : 0 + length s.definitions ≡ length s.definitions = omega arith in e) q.0,
+    )
 
 active_more : (xs : List Bool) (k : ℕ) → with_value (λ n. get_or xs n false) (length xs) true k ≡ get_or (xs ++ true ∷ []) k false
 active_more xs k = go (cases_order k (length xs))
@@ -155,15 +156,19 @@ extended-Placed d cs s f h =
     or_cond : (b a : Bool) → (b || a) ≡ true → cond b true a ≡ true
     or_cond true a e = refl
     or_cond false a e = e
+
     long : length (s.definitions ++ d ∷ []) ≡ length s.definitions + 1
     long = length_push s.definitions d
+
     at_end : (k : ℕ) → (k == length s.definitions) ≡ true → ltb k (length s.definitions) ≡ false
     at_end k e = let a : k ≡ length s.definitions = eqb-true _ _ e in le-ltb _ _ (let b : length s.definitions ≤ k = omega arith in b)
+
     at_new : (k : ℕ) → (k == length s.definitions) ≡ true → ltb k (length (s.definitions ++ d ∷ [])) ≡ true
     at_new k e =
         let a : k ≡ length s.definitions = eqb-true _ _ e in
         let l : length (s.definitions ++ d ∷ []) ≡ length s.definitions + 1 = long in
         lt-ltb _ _ (let b : k < length (s.definitions ++ d ∷ []) = omega arith in b)
+
     elsewhere : (k : ℕ) → (k == length s.definitions) ≡ false → ltb k (length s.definitions) ≡ ltb k (length (s.definitions ++ d ∷ []))
     elsewhere k e = go (ltb k (length s.definitions)) refl
       where
@@ -188,6 +193,7 @@ extended-IsInRange d cs s f r =
   where
     long : outer_count (s.definitions ++ d ∷ []) ≡ outer_count s.definitions + length (outers_from (0 + length s.definitions) (d ∷ []))
     long = ap length (outers_from-append 0 s.definitions (d ∷ [])) ∙ length-append (outers_from 0 s.definitions) (outers_from (0 + length s.definitions) (d ∷ []))
+
     more : (item : Item) → names_known (outer_count s.definitions) item ≡ true → names_known (outer_count (s.definitions ++ d ∷ [])) item ≡ true
     more item e = names_known_more (outer_count s.definitions) (outer_count (s.definitions ++ d ∷ [])) item (let l : outer_count (s.definitions ++ d ∷ []) ≡ outer_count s.definitions + length (outers_from (0 + length s.definitions) (d ∷ [])) = long in omega arith) e
 

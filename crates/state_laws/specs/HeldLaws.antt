@@ -1,15 +1,14 @@
 -- Stored clauses that are added and dropped.
-use Rattle.std.proofs.Common.{◌≡◌, ℕ, ◌+◌, ◌<◌, ◌≤◌, ◌==◌, Bool, true, false, cond, not, ltb, leb, ◌||◌, List, [], ◌∷◌, ◌++◌, refl, sym, ap, ap₂, subst, ◌∙◌, arith, take, length, get_or, filter, map, option_map, Option, Some, None, is_some, find, ltb-true, eqb-true, eq-eqb, ne_eqb, append-nil, append_assoc}
+use Rattle.std.proofs.Common.{◌≡◌, ℕ, ◌<◌, ◌≤◌, ◌==◌, Bool, true, false, cond, not, ltb, leb, ◌||◌, List, [], ◌∷◌, ◌++◌, refl, sym, ap, ap₂, subst, ◌∙◌, arith, filter, map, Option, Some, None, is_some, ltb-true, eqb-true, eq-eqb, ne_eqb, append-nil, append_assoc}
 use Rattle.std.proofs.lemmas.Bool.{and_parts, and_from, or_right, false≢true}
 use Rattle.std.proofs.lemmas.List.{map-append}
-use Rattle.std.proofs.lemmas.List.Folds.{list_all-append, list_any-append}
+use Rattle.std.proofs.lemmas.List.Folds.{list_any-append}
 use Rattle.std.proofs.lemmas.List.Elements.{filter-append}
-use Rattle.std.specs.List.{list_all, list_any}
+use Rattle.std.specs.List.{list_all}
 use Rattle.sat_lits.specs.ListLaws.{all_mono, all_push}
-use Rattle.sat_lits.specs.declared.literal.InLit.{InLit}
 use Rattle.sat_lits.specs.declared.literal.ClauseId.{ClauseId}
 use Rattle.clause_store.specs.Store.{Store, Held, IsKept, held_as, clause_at, is_live, without, rising}
-use Rattle.state_laws.specs.Held.{InClause, strip, numbers, is_among, without_ids, Adds, ExtendsBy}
+use Rattle.state_laws.specs.Held.{InClause, strip, numbers, is_among, Adds, ExtendsBy}
 
 -- where each element passes, the filter leaves all
 pub filter_all : {X : Type 0} (p : X → Bool) (xs : List X) → list_all p xs ≡ true → filter p xs ≡ xs
@@ -60,6 +59,7 @@ all_found p (k ∷ hs) i h e a = go (k.id == i) (all_found p hs i h) e
   where
     q : (p k ≡ true) × (list_all p hs ≡ true)
     q = and_parts _ _ a
+
     go : (b : Bool) → (clause_at hs i ≡ Some h → list_all p hs ≡ true → p h ≡ true) → cond b (Some k) (clause_at hs i) ≡ Some h → p h ≡ true
     go true r e = ap p (sym (some_held k h e)) ∙ q.0
     go false r e = r e q.1
@@ -111,6 +111,7 @@ drop_those p (h ∷ hs) e =
     skip l =
         filter_agree (λ k. ltb h.id k.id) (λ k. not (is_among (h.id ∷ map (λ j. j.id) (filter p hs)) k)) (λ k. not (is_among (map (λ j. j.id) (filter p hs)) k))
         (λ k q. ap (λ b. not (b || is_among (map (λ j. j.id) (filter p hs)) k)) (ne_eqb k.id h.id (λ z. absurd (let l : h.id < k.id = ltb-true _ _ q in omega arith)))) hs l
+
     go : (b : Bool) → list_all (λ k. ltb h.id k.id) hs ≡ true → is_among (map (λ k. k.id) (filter p hs)) h ≡ false → filter (λ k. not (is_among (map (λ j. j.id) (filter p hs)) k)) hs ≡ filter (λ k. not (p k)) hs
         → filter (λ k. not (is_among (map (λ j. j.id) (cond b (h ∷ filter p hs) (filter p hs))) k)) (h ∷ hs) ≡ cond (not b) (h ∷ filter (λ k. not (p k)) hs) (filter (λ k. not (p k)) hs)
     go true l n r = rw (eq-eqb h.id h.id refl) (skip l ∙ r)
@@ -128,9 +129,11 @@ keep_news g p hs news l e = filter_all (λ h. not (is_among (map (λ k. k.id) (f
       where
         clash : (x y g : ℕ) → leb g x ≡ true → ltb y g ≡ true → x ≡ y → ⊥
         clash x y g l m z = absurd (grind arith)
+
         go : (b : Bool) → (n.id == h.id) ≡ false → is_among (map (λ j. j.id) (filter p hs)) n ≡ false → is_among (map (λ j. j.id) (cond b (h ∷ filter p hs) (filter p hs))) n ≡ false
         go true z r = rw z r
         go false z r = r
+
     each : (ns : List Held) → list_all (λ h. leb g h.id) ns ≡ true → list_all (λ h. not (is_among (map (λ k. k.id) (filter p hs)) h)) ns ≡ true
     each [] e = refl
     each (n ∷ ns) e =
@@ -171,6 +174,7 @@ rolled_back s t ids cs n a =
     above : (hs : List Held) (g : ℕ) → list_all (λ h. leb g h.id) hs ≡ true → list_all (λ (i : ℕ). leb g i) (map (λ h. h.id) hs) ≡ true
     above [] g e = refl
     above (h ∷ hs) g e = let p : (leb g h.id ≡ true) × (list_all (λ (k : Held). leb g k.id) hs ≡ true) = and_parts _ _ e in and_from _ _ p.0 (above hs g p.1)
+
     apart : (ns : List ℕ) (h : Held) → ltb h.id s.given ≡ true → list_all (λ (i : ℕ). leb s.given i) ns ≡ true → is_among ns h ≡ false
     apart [] h l e = refl
     apart (i ∷ ns) h l e =
@@ -179,17 +183,21 @@ rolled_back s t ids cs n a =
       where
         below : (x y g : ℕ) → ltb x g ≡ true → leb g y ≡ true → x ≡ y → ⊥
         below x y g l m z = absurd (grind arith)
+
     olds : (hs : List Held) → list_all (λ h. ltb h.id s.given) hs ≡ true → list_all (λ h. not (is_among (numbers ids) h)) hs ≡ true
     olds [] e = refl
     olds (h ∷ hs) e =
         let p : (ltb h.id s.given ≡ true) × (list_all (λ (k : Held). ltb k.id s.given) hs ≡ true) = and_parts _ _ e in
         and_from _ _ (ap not (apart (numbers ids) h p.0 (subst (λ (ns : List ℕ). list_all (λ (i : ℕ). leb s.given i) ns ≡ true) a.numbered (above a.news s.given a.fresh)))) (olds hs p.1)
+
     old : list_all (λ h. not (is_among (numbers ids) h)) s.held ≡ true
     old = olds s.held n.below
+
     selves : (hs : List Held) → list_all (is_among (map (λ h. h.id) hs)) hs ≡ true
     selves [] = refl
     selves (h ∷ hs) =
         and_from _ _ (ap (λ b. b || is_among (map (λ k. k.id) hs) h) (eq-eqb h.id h.id refl))
         (all_mono (is_among (map (λ k. k.id) hs)) (is_among (h.id ∷ map (λ k. k.id) hs)) (λ k q. or_right (k.id == h.id) (is_among (map (λ j. j.id) hs) k) q) hs (selves hs))
+
     new : list_all (λ h. not (not (is_among (numbers ids) h))) a.news ≡ true
     new = all_mono (is_among (numbers ids)) (λ h. not (not (is_among (numbers ids) h))) (λ k q. ap (λ b. not (not b)) q) a.news (subst (λ (ns : List ℕ). list_all (is_among ns) a.news ≡ true) a.numbered (selves a.news))

@@ -1,4 +1,4 @@
--- A kernel stands when an outer variable is made.
+-- A kernel stands when an own variable is made.
 use Rattle.std.proofs.Common.{◌≡◌, ℕ, ◌+◌, Bool, true, false, not, List, [], ◌∷◌, ◌++◌, refl, sym, ap, ap₂, subst, ◌∙◌, arith, length, map, Option, Some, None, is_some, append-nil}
 use Rattle.std.proofs.lemmas.List.{map-append, length-map}
 use Rattle.sat_lits.specs.declared.literal.Own.{Own}
@@ -8,10 +8,13 @@ use Rattle.var_maps.specs.Maps.{Maps, Added}
 use Rattle.state_laws.specs.declared.definition.Definition.{Definition}
 use Rattle.state_laws.specs.State.{State, outers_from}
 use Rattle.state_laws.specs.Stands.{Stands}
+use Rattle.sat_lits.specs.declared.literal.OwnLit.{OwnLit}
 use Rattle.state_laws.specs.Moves.{extended}
+use Rattle.state_laws.specs.Conditions.{Defines}
+use Rattle.state_laws.specs.Held.{InClause, in_own, hard_clause, ExtendsBy}
 use Rattle.state_laws.specs.Kernel.{Kernel, state_of, Standing}
 use Rattle.state_laws.specs.ExtendLaws.{outers_from-append, extended-Stands}
-use Rattle.state_laws.specs.ViewLaws.{state_of_parts, numbered_view}
+use Rattle.state_laws.specs.ViewLaws.{state_of_parts, clauses_of, clauses_of-append, listed, listed-hard, listed-none, news_of, numbered_view}
 
 -- the kernel with these maps and one outer variable more
 abbrev pub with_outer : Maps → Kernel → Kernel
@@ -27,6 +30,7 @@ grown_state k m v o a h =
     (ap (map is_some) a.inners ∙ map-append is_some k.maps.inners (Some a.inner ∷ []))
     refl
 
+-- and it stands
 pub grown-Standing : (k : Kernel) (m : Maps) (v : Own) (o : Var) → Added (Some o) v k.maps m → m.outers ≡ k.maps.outers ++ v ∷ [] → Standing k → Standing (with_outer m k)
 grown-Standing k m v o a r h =
     record {
@@ -44,3 +48,47 @@ grown-Standing k m v o a r h =
         let j : length (map is_some k.maps.inners) ≡ length k.maps.inners = length-map k.maps.inners is_some in
         let e : v.0 ≡ length k.maps.inners = a.number in
         omega arith
+
+-- a private variable with this definition was made, and clauses were added that are these in own literals
+pub record PrivateMade (k n : Kernel) (v : Own) (d : Definition) (clauses : List InClause) (made : List (List OwnLit)) : Type 0 where
+  pub items : n.items ≡ k.items
+  pub entries : n.entries ≡ k.entries
+  pub definitions : n.definitions ≡ k.definitions ++ Some d ∷ []
+  pub maps : Added None v k.maps n.maps
+  pub outers : n.maps.outers ≡ k.maps.outers
+  pub stack : n.stack ≡ k.stack
+  pub okay : n.okay ≡ k.okay
+  pub extends : ExtendsBy k.store n.store clauses
+  pub become : map (in_own n.maps) clauses ≡ map hard_clause made
+
+clauses_then : (k n : Kernel) (v : Own) (d : Definition) (clauses : List InClause) (made : List (List OwnLit)) → PrivateMade k n v d clauses made → (test : Bool → Bool) → clauses_of k.maps test k.store.held ≡ clauses_of n.maps test k.store.held
+    → clauses_of n.maps test n.store.held ≡ clauses_of k.maps test k.store.held ++ listed test (map hard_clause made)
+clauses_then k n v d clauses made p test same =
+    ap (clauses_of n.maps test) p.extends.held
+    ∙ (clauses_of-append n.maps test k.store.held p.extends.news
+    ∙ ap₂ {C = List (List OwnLit)} ◌++◌ (sym same) (news_of n.maps test k.store n.store clauses (map hard_clause made) p.become p.extends))
+
+-- it is seen as the state with the private variable
+pub private_state : (k n : Kernel) (v : Own) (d : Definition) (clauses : List InClause) (made : List (List OwnLit)) → PrivateMade k n v d clauses made → Stands (state_of k) → state_of n ≡ extended (Some d) made (state_of k)
+private_state k n v d clauses made p h =
+    state_of_parts n p.items p.entries p.definitions
+    (clauses_then k n v d clauses made p not (numbered_view k.maps n.maps v p.maps.inner p.maps.numbered.free p.maps.numbered.given (hard_of k.store.held) h.places.placed.hard)
+    ∙ ap (λ z. (state_of k).hard ++ z) (listed-hard made))
+    (clauses_then k n v d clauses made p (λ b. b) (numbered_view k.maps n.maps v p.maps.inner p.maps.numbered.free p.maps.numbered.given (learned_of k.store.held) h.places.placed.learned)
+    ∙ (ap (λ z. (state_of k).learned ++ z) (listed-none made) ∙ append-nil (state_of k).learned))
+    p.stack
+    (ap (map is_some) p.maps.inners ∙ map-append is_some k.maps.inners (Some p.maps.inner ∷ []))
+    p.okay
+
+-- and stands
+pub private-Standing : (k n : Kernel) (v : Own) (d : Definition) (clauses : List InClause) (made : List (List OwnLit)) → PrivateMade k n v d clauses made → Defines (state_of k) (Some d) made → Standing k → Standing n
+private-Standing k n v d clauses made p f h =
+    record {
+      stands = subst (λ (s : State). Stands s) (sym (private_state k n v d clauses made p h.stands)) (extended-Stands (Some d) made (state_of k) f h.stands);
+      outers = ap (map (λ (w : Own). w.0)) p.outers
+          ∙ (h.outers ∙ (sym (append-nil (outers_from 0 k.definitions)) ∙ (sym (outers_from-append 0 k.definitions (Some d ∷ [])) ∙ ap (outers_from 0) (sym p.definitions))));
+      private = ap (map is_some) p.definitions
+          ∙ (map-append is_some k.definitions (Some d ∷ [])
+          ∙ (ap (λ (z : List Bool). z ++ true ∷ []) h.private
+          ∙ (sym (map-append (λ (x : Option Var). not (is_some x)) k.maps.outer_numbers (None ∷ [])) ∙ ap (map (λ (x : Option Var). not (is_some x))) (sym p.maps.outer_numbers))));
+    }

@@ -1,7 +1,7 @@
 -- A kernel stands when it is new, when clauses are learned or dropped, and when it is refuted.
-use Rattle.std.proofs.Common.{◌≡◌, ℕ, zero, ◌+◌, ◌<◌, ◌==◌, Bool, true, false, cond, not, ltb, ◌&&◌, List, [], ◌∷◌, ◌++◌, refl, sym, ap, ap₂, subst, ◌∙◌, arith, filter, map, option_map, Option, Some, None, ltb-true, eqb-true, ne_eqb, append-nil}
-use Rattle.std.proofs.lemmas.Bool.{and_parts, and_from, false≢true}
-use Rattle.std.specs.List.{list_all, list_any}
+use Rattle.std.proofs.Common.{◌≡◌, ℕ, ◌+◌, ◌<◌, ◌==◌, Bool, true, false, cond, not, ltb, List, [], ◌∷◌, ◌++◌, refl, sym, ap, ap₂, subst, ◌∙◌, arith, filter, map, option_map, Some, ltb-true, eqb-true, ne_eqb, append-nil}
+use Rattle.std.proofs.lemmas.Bool.{and_parts}
+use Rattle.std.specs.List.{list_all}
 use Rattle.sat_lits.specs.Truth.{clause_value, clauses_value}
 use Rattle.sat_lits.specs.ListLaws.{all_mono}
 use Rattle.sat_lits.specs.declared.literal.OwnLit.{OwnLit}
@@ -12,8 +12,8 @@ use Rattle.clause_store.specs.Store.{Store, Held, IsKept, held_as, hard_of, lear
 use Rattle.var_maps.specs.Maps.{Maps}
 use Rattle.state_laws.specs.State.{State, is_active}
 use Rattle.state_laws.specs.Stands.{Stands}
-use Rattle.state_laws.specs.Moves.{learning, with_hard, with_learned, refuted}
-use Rattle.state_laws.specs.Conditions.{Satisfies, Learnable, IsContradicted}
+use Rattle.state_laws.specs.Moves.{learning, with_hard, with_learned}
+use Rattle.state_laws.specs.Conditions.{Learnable, IsContradicted}
 use Rattle.state_laws.specs.Held.{own_clause, own_clauses}
 use Rattle.state_laws.specs.Kernel.{Kernel, no_kernel, state_of, Standing, IsLearnedId, IsImplied}
 use Rattle.state_laws.specs.LearnLaws.{with_hard-Stands, with_learned-Stands, learning-Stands, refuted-Stands}
@@ -46,6 +46,7 @@ learned_state k s id lits c h e =
     (ap (clauses_of k.maps not) h ∙ (clauses_of-append k.maps not k.store.held (held_as id true lits ∷ []) ∙ append-nil (clauses_of k.maps not k.store.held)))
     (ap (clauses_of k.maps (λ b. b)) h ∙ (clauses_of-append k.maps (λ b. b) k.store.held (held_as id true lits ∷ []) ∙ ap (λ z. clauses_of k.maps (λ b. b) k.store.held ++ z ∷ []) e))
 
+-- and it stands
 pub learned-Standing : (k : Kernel) (s : Store) (id : ℕ) (lits : List InLit) (c : List OwnLit) → s.held ≡ k.store.held ++ held_as id true lits ∷ [] → own_clause k.maps lits ≡ c → Learnable (state_of k) c → Standing k → Standing (record k { store = s })
 learned-Standing k s id lits c h e l t =
     record { stands = subst (λ (x : State). Stands x) (sym (learned_state k s id lits c h e)) (learning-Stands c (state_of k) l t.stands); outers = t.outers; private = t.private }
@@ -59,10 +60,12 @@ other_list m test b i (h ∷ hs) f l r =
   where
     some_bool : (x y : Bool) → Some x ≡ Some y → x ≡ y
     some_bool x y q = cc
+
     rest : (h.id == i) ≡ true → list_all (λ k. ltb h.id k.id) hs ≡ true → without i hs ≡ hs
     rest e a =
         filter_all (λ k. not (k.id == i)) hs
         (all_mono (λ (k : Held). ltb h.id k.id) (λ (k : Held). not (k.id == i)) (λ k q. ap not (ne_eqb k.id i (λ z. absurd (let u : h.id < k.id = ltb-true _ _ q in let v : h.id ≡ i = eqb-true _ _ e in omega arith)))) hs a)
+
     go : (c : Bool) → (h.id == i) ≡ c → list_all (λ k. ltb h.id k.id) hs ≡ true → (option_map (λ k. k.learned) (clause_at hs i) ≡ Some b → clauses_of m test (without i hs) ≡ clauses_of m test hs)
         → option_map (λ k. k.learned) (cond c (Some h) (clause_at hs i)) ≡ Some b
         → clauses_of m test (cond (not c) (h ∷ without i hs) (without i hs)) ≡ own_clauses m (map (λ (k : Held). k.lits) (cond (test h.learned) (h ∷ filter (λ k. test k.learned) hs) (filter (λ k. test k.learned) hs)))
@@ -84,6 +87,7 @@ pub drop_learned_state : (k : Kernel) (id : ℕ) → IsLearnedId k id → IsKept
 drop_learned_state k id l n =
     ap (λ (x : List (List OwnLit)). record (state_of k) { hard = x; learned = own_clauses k.maps (learned_of (without id k.store.held)) }) (other_list k.maps not true id k.store.held refl l n.rises)
 
+-- and it stands
 pub drop_learned-Standing : (k : Kernel) (id : ℕ) → IsLearnedId k id → IsKept k.store → Standing k → Standing (dropped id k)
 drop_learned-Standing k id l n t =
     record {
@@ -106,6 +110,7 @@ both_ways true b f g = sym (f refl)
 both_ways false true f g = g refl
 both_ways false false f g = refl
 
+-- and it stands
 pub drop_implied-Standing : (k : Kernel) (id : ℕ) → IsImplied k id → IsKept k.store → Standing k → Standing (dropped id k)
 drop_implied-Standing k id l n t =
     record {

@@ -1,5 +1,5 @@
 -- Inner values that satisfy the hard clauses give a model of the items taken.
-use Rattle.std.proofs.Common.{◌≡◌, ℕ, zero, suc, Bool, true, false, ◌||◌, List, [], ◌∷◌, refl, sym, ap, ap₂, subst, ◌∙◌, length, get_or, map, Option, Some, None, is_some}
+use Rattle.std.proofs.Common.{◌≡◌, ℕ, Bool, true, false, ◌||◌, List, [], ◌∷◌, refl, sym, ap, ap₂, subst, ◌∙◌, length, get_or, map, Option, Some, None, is_some}
 use Rattle.std.proofs.Math.ListN.{get_or-map}
 use Rattle.std.proofs.lemmas.Bool.{and_parts, and_from, false≢true}
 use Rattle.std.proofs.lemmas.List.{length-map}
@@ -8,13 +8,12 @@ use Rattle.sat_lits.specs.Truth.{signed, clause_value, clauses_value}
 use Rattle.sat_lits.specs.Meaning.{IsModel}
 use Rattle.sat_lits.specs.declared.literal.Own.{Own}
 use Rattle.sat_lits.specs.declared.literal.OwnLit.{OwnLit}
-use Rattle.sat_lits.specs.declared.literal.Inner.{Inner}
 use Rattle.sat_lits.specs.declared.literal.InLit.{InLit}
 use Rattle.rebuild_stack.specs.Values.{values_of, own_value, each_lit}
 use Rattle.rebuild_stack.specs.Entries.{rebuild, is_within}
 use Rattle.clause_store.specs.Store.{hard_of}
 use Rattle.var_maps.specs.Maps.{Maps, Matched, owner_at}
-use Rattle.state_laws.specs.State.{is_active, outer_part, problem_of}
+use Rattle.state_laws.specs.State.{outer_part, problem_of}
 use Rattle.state_laws.specs.Held.{own_or, own_of, own_clause, own_clauses, inner_value, in_value}
 use Rattle.state_laws.specs.Kernel.{Kernel, state_of, Standing}
 use Rattle.state_laws.specs.PlaceLaws.{stack_within}

@@ -92,8 +92,10 @@ pushed_state k n e ids clauses t p q h =
   where
     i : (i : Inner) × (inner_at k.maps (named e) ≡ Some i)
     i = some_inner (inner_at k.maps (named e)) (sym (get_is_some k.maps.inners (named e)) ∙ q.active)
+
     active : (j : ℕ) → is_active (put_into e (state_of k)) j ≡ is_some (get_or (set k.maps.inners (named e) None) j None)
     active j = ap (λ (z : List Bool). get_or z j false) (sym (map-set is_some k.maps.inners (named e) None)) ∙ get_is_some (set k.maps.inners (named e) None) j
+
     view : (cs : List (List Rattle.sat_lits.specs.declared.literal.InLit.InLit)) (made : List (List OwnLit)) → own_clauses k.maps cs ≡ made → each_lit (λ l. is_active (put_into e (state_of k)) l.var.0) made ≡ true → own_clauses n.maps cs ≡ made
     view cs made f a =
         ap (λ (m : Maps). own_clauses m cs) p.maps

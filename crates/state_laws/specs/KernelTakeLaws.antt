@@ -1,11 +1,10 @@
--- A kernel stands when an outer clause is taken.
+-- A kernel stands when an item or a shared entry is taken.
 use Rattle.std.proofs.Common.{◌≡◌, ℕ, zero, suc, Bool, true, not, nat_lt, List, [], ◌∷◌, ◌++◌, refl, sym, ap, subst, ◌∙◌, length, get_or, map, Option, Some, None, is_some, option_to_list, append-nil}
 use Rattle.std.proofs.Math.Path.{fun_ext}
 use Rattle.std.proofs.lemmas.List.{length-map}
 use Rattle.std.proofs.lemmas.List.Folds.{list_all-map}
 use Rattle.std.specs.List.{list_all}
 use Rattle.sat_lits.specs.ListLaws.{all_mono}
-use Rattle.sat_lits.specs.Formulas.{names_known}
 use Rattle.sat_lits.specs.declared.literal.Lit.{Lit}
 use Rattle.sat_lits.specs.declared.literal.Own.{Own}
 use Rattle.sat_lits.specs.declared.literal.OwnLit.{OwnLit}
@@ -15,15 +14,16 @@ use Rattle.sat_lits.specs.declared.shared.Shared.{Shared}
 use Rattle.rebuild_stack.specs.Roots.{root}
 use Rattle.rebuild_stack.specs.PutIn.{put_in, option_passes}
 use Rattle.rebuild_stack.specs.declared.entry.Root.{Root}
-use Rattle.clause_store.specs.Store.{Store, Held, hard_of, learned_of}
+use Rattle.clause_store.specs.Store.{hard_of, learned_of}
 use Rattle.var_maps.specs.Maps.{Maps, plain}
 use Rattle.state_laws.specs.State.{State, is_active, outers_from, to_own}
 use Rattle.state_laws.specs.Stands.{Stands}
-use Rattle.state_laws.specs.Moves.{own_form, taken, imported}
-use Rattle.state_laws.specs.Conditions.{Takable}
+use Rattle.state_laws.specs.Moves.{own_form, taken, imported, taking}
+use Rattle.state_laws.specs.Conditions.{Takable, StandsFor}
 use Rattle.state_laws.specs.Held.{own_clauses, own_outer, has_inner, InClause, in_own, hard_clause, ExtendsBy}
 use Rattle.state_laws.specs.Kernel.{Kernel, state_of, Standing, Longer}
 use Rattle.state_laws.specs.TakeLaws.{own_form_active, taken-Stands, imported-Stands}
+use Rattle.state_laws.specs.ExtendLaws.{taking-Stands}
 use Rattle.state_laws.specs.ViewLaws.{state_of_parts, clauses_of, clauses_of-append, listed, listed-hard, listed-none, news_of, get_is_some}
 
 -- hard clauses were added, that are these in own literals; what was taken may have grown
@@ -93,6 +93,7 @@ taken_state k n c clauses x i e =
     state_of_parts n i e x.definitions (more_hard k n clauses (option_to_list (own_form (state_of k) c)) x) (same_learned k n clauses (option_to_list (own_form (state_of k) c)) x) x.stack
     (ap (λ (m : Maps). map is_some m.inners) x.maps) x.okay
 
+-- and it stands
 pub taken-Standing : (k n : Kernel) (c : List Lit) (clauses : List InClause) → HoldsMore k n clauses (option_to_list (own_form (state_of k) c)) → n.items ≡ k.items ++ Clause c ∷ [] → n.entries ≡ k.entries → Takable (state_of k) c
     → Standing k → Standing n
 taken-Standing k n c clauses x i e t h =
@@ -108,11 +109,27 @@ imported_state k n s clauses x i e =
     state_of_parts n i e x.definitions (more_hard k n clauses (option_to_list (own_form (state_of k) s.clause)) x) (same_learned k n clauses (option_to_list (own_form (state_of k) s.clause)) x) x.stack
     (ap (λ (m : Maps). map is_some m.inners) x.maps) x.okay
 
+-- and it stands
 pub imported-Standing : (k n : Kernel) (s : Shared) (clauses : List InClause) → HoldsMore k n clauses (option_to_list (own_form (state_of k) s.clause)) → n.items ≡ k.items → n.entries ≡ k.entries ++ s ∷ [] → Takable (state_of k) s.clause
     → Standing k → Standing n
 imported-Standing k n s clauses x i e t h =
     record {
       stands = subst (λ (z : State). Stands z) (sym (imported_state k n s clauses x i e)) (imported-Stands s (state_of k) t h.stands);
+      outers = same_outers k n x.definitions x.maps h;
+      private = same_private k n x.definitions x.maps h;
+    }
+
+-- an item was taken, and clauses that stand for it are held
+pub item_taken_state : (k n : Kernel) (item : Item) (clauses : List InClause) (made : List (List OwnLit)) → HoldsMore k n clauses made → n.items ≡ k.items ++ item ∷ [] → n.entries ≡ k.entries → state_of n ≡ taking item made (state_of k)
+item_taken_state k n item clauses made x i e =
+    state_of_parts n i e x.definitions (more_hard k n clauses made x) (same_learned k n clauses made x) x.stack (ap (λ (m : Maps). map is_some m.inners) x.maps) x.okay
+
+-- and it stands
+pub item_taken-Standing : (k n : Kernel) (item : Item) (clauses : List InClause) (made : List (List OwnLit)) → HoldsMore k n clauses made → n.items ≡ k.items ++ item ∷ [] → n.entries ≡ k.entries → StandsFor (state_of k) item made
+    → Standing k → Standing n
+item_taken-Standing k n item clauses made x i e f h =
+    record {
+      stands = subst (λ (z : State). Stands z) (sym (item_taken_state k n item clauses made x i e)) (taking-Stands item made (state_of k) f h.stands);
       outers = same_outers k n x.definitions x.maps h;
       private = same_private k n x.definitions x.maps h;
     }

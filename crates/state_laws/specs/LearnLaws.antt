@@ -1,9 +1,9 @@
 -- A state stands when clauses are learned or dropped, and when it is refuted.
-use Rattle.std.proofs.Common.{◌≡◌, ℕ, Bool, true, false, List, [], ◌∷◌, ◌++◌, refl, sym, ◌∙◌}
+use Rattle.std.proofs.Common.{◌≡◌, ℕ, Bool, true, List, [], ◌∷◌, ◌++◌, refl, sym, ◌∙◌}
 use Rattle.std.proofs.lemmas.Bool.{and_from, false≢true}
 use Rattle.std.proofs.lemmas.List.Folds.{list_all-append}
 use Rattle.std.specs.List.{list_all, list_any}
-use Rattle.sat_lits.specs.Truth.{clause_value, clauses_value}
+use Rattle.sat_lits.specs.Truth.{clauses_value}
 use Rattle.sat_lits.specs.declared.literal.OwnLit.{OwnLit}
 use Rattle.rebuild_stack.specs.Values.{own_value, each_lit}
 use Rattle.rebuild_stack.specs.PutIn.{is_clean}

@@ -21,3 +21,7 @@ pub mod KernelTakeLaws
 pub mod KernelLearnLaws
 pub mod KernelExtendLaws
 pub mod KernelModelLaws
+pub mod KernelEliminateLaws
+pub mod KernelRestoreLaws
+pub mod Theorems
+pub mod WidenLaws

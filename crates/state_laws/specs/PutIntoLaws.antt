@@ -1,6 +1,6 @@
 -- A state stands when an entry that fixes or replaces a variable is put into it.
 use Rattle.std.proofs.Common.{◌≡◌, ℕ, ◌==◌, Bool, true, false, not, ◌&&◌, List, [], ◌∷◌, ◌++◌, refl, sym, ap, ap₂, subst, ◌∙◌, filter, length}
-use Rattle.std.proofs.lemmas.Bool.{and_parts, and_from, or_parts, not-true}
+use Rattle.std.proofs.lemmas.Bool.{and_from, or_parts}
 use Rattle.std.proofs.lemmas.List.Folds.{list_all-append}
 use Rattle.std.specs.List.{list_any, list_all}
 use Rattle.sat_lits.specs.Truth.{signed, clause_value, clauses_value, with_value}
@@ -22,7 +22,7 @@ use Rattle.state_laws.specs.State.{State, is_active, outer_part, problem_of}
 use Rattle.state_laws.specs.Stands.{Accords, Stands, is_clean_entry}
 use Rattle.state_laws.specs.Resolution.{is_of, mentions}
 use Rattle.state_laws.specs.Moves.{put_through, put_into}
-use Rattle.state_laws.specs.Conditions.{Satisfies, Pushable, EntryFollows}
+use Rattle.state_laws.specs.Conditions.{Pushable, EntryFollows}
 use Rattle.state_laws.specs.PlaceLaws.{placed_push, set_places, active_in, root_step, unmentioned_all}
 
 and_comm : (a b : Bool) → (a && b) ≡ (b && a)

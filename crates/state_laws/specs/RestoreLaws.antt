@@ -1,10 +1,10 @@
 -- A state stands when an eliminated variable is restored.
-use Rattle.std.proofs.Common.{◌≡◌, ℕ, zero, suc, ◌+◌, ◌<◌, ◌≤◌, ◌==◌, ◌⊎◌, Bool, true, false, cond, not, ltb, ◌&&◌, ◌||◌, List, [], ◌∷◌, ◌++◌, refl, sym, ap, subst, ◌∙◌, ⊎_elim, arith, length, take, drop, slice_get, remove, Some, eq-eqb}
+use Rattle.std.proofs.Common.{◌≡◌, ℕ, zero, suc, ◌+◌, ◌<◌, ◌≤◌, ◌==◌, ◌⊎◌, Bool, true, false, cond, not, ltb, ◌&&◌, ◌||◌, List, [], ◌∷◌, ◌++◌, refl, sym, ap, subst, ◌∙◌, ⊎_elim, arith, length, take, drop, slice_get, Some, eq-eqb}
 use Rattle.std.proofs.lemmas.Bool.{and_parts, and_from, or_cases, or_left, or_right, not-true, ltb-true}
 use Rattle.std.proofs.lemmas.List.Folds.{list_all-append, list_any-append}
 use Rattle.std.specs.List.{list_any, list_all}
 use Rattle.sat_lits.specs.Truth.{signed, clauses_value, with_value}
-use Rattle.sat_lits.specs.ListLaws.{all_get, both_all}
+use Rattle.sat_lits.specs.ListLaws.{both_all}
 use Rattle.sat_lits.specs.ClauseLaws.{clauses_value-append, clauses_value_agree}
 use Rattle.sat_lits.specs.Meaning.{IsModel}
 use Rattle.sat_lits.specs.declared.literal.Own.{Own}
@@ -49,20 +49,23 @@ between s v cs older newer e h r =
       test = λ l. here l && clear l;
       passes =
           let p : (list_all (λ c. list_all here c) cs ≡ true) × (ordered (is_active s) newer ≡ true) =
-              and_parts _ _ (ordered_newer (is_active s) older (Gone v cs ∷ newer) (subst (λ z. ordered (is_active s) z ≡ true) e h.placed.in_order)) in
+          and_parts _ _ (ordered_newer (is_active s) older (Gone v cs ∷ newer) (subst (λ z. ordered (is_active s) z ≡ true) e h.placed.in_order)) in
           each_both here clear cs p.0 r;
       found = λ l t. let p : (here l ≡ true) × (clear l ≡ true) = and_parts _ _ t in not_lost l p.0 p.1;
     }
   where
     here : OwnLit → Bool
     here l = (l.var.0 == v.0) || (is_active s l.var.0 || list_any (names l.var.0) newer)
+
     clear : OwnLit → Bool
     clear l = (l.var.0 == v.0) || not (is_lost (root s.stack l))
+
     count : (k : ℕ) → times_named k older + (cond {A = ℕ} (k == v.0) 1 0 + times_named k newer) + cond {A = ℕ} (is_active s k) 1 0 ≤ 1
     count k =
         let a : times_named k s.stack ≡ times_named k older + (cond {A = ℕ} (k == v.0) 1 0 + times_named k newer) = ap (times_named k) e ∙ times_named-append k older (Gone v cs ∷ newer) in
         let b : times_named k s.stack + cond {A = ℕ} (is_active s k) 1 0 ≤ 1 = once_named s k h in
         omega arith
+
     not_older : (l : OwnLit) → here l ≡ true → list_any (names l.var.0) older ≡ false
     not_older l t = unnamed l.var.0 older (none (count l.var.0) (or_cases _ _ t))
       where
@@ -76,12 +79,14 @@ between s v cs older newer e h r =
             (λ a. let q : 1 ≤ times_named l.var.0 newer = times_any l.var.0 newer a in omega arith)
             (or_cases _ _ p))
             w
+
     not_newer : (l : OwnLit) → (l.var.0 == v.0) ≡ true → list_any (names l.var.0) newer ≡ false
     not_newer l p =
         unnamed l.var.0 newer
         (let q : cond {A = ℕ} (l.var.0 == v.0) 1 0 ≡ 1 = one_if _ p in
         let c : times_named l.var.0 older + (cond {A = ℕ} (l.var.0 == v.0) 1 0 + times_named l.var.0 newer) + cond {A = ℕ} (is_active s l.var.0) 1 0 ≤ 1 = count l.var.0 in
         omega arith)
+
     not_lost : (l : OwnLit) → here l ≡ true → clear l ≡ true → is_lost (root newer l) ≡ false
     not_lost l t u = go (l.var.0 == v.0) refl u
       where
@@ -106,7 +111,7 @@ restored-IsComplete at v cs s r places h =
     record {
       rebuilt = λ o w c.
           let p : (clauses_value (own_value w) s.hard ≡ true) × (clauses_value (own_value w) (put_in_all (root (drop (suc at) s.stack)) cs) ≡ true) =
-              and_parts _ _ (sym (clauses_value-append (own_value w) s.hard (put_in_all (root (drop (suc at) s.stack)) cs)) ∙ c) in
+          and_parts _ _ (sym (clauses_value-append (own_value w) s.hard (put_in_all (root (drop (suc at) s.stack)) cs)) ∙ c) in
           subst (λ (z : ℕ → Bool). IsModel (problem_of s) (outer_part s.definitions z))
           (ap (λ z. rebuild z w) (split_at s.stack at (Gone v cs) r.entry)
           ∙ between_rebuild (take at s.stack) (drop (suc at) s.stack) v cs w (between s v cs (take at s.stack) (drop (suc at) s.stack) (split_at s.stack at (Gone v cs) r.entry) places r.roots) p.1)
@@ -124,16 +129,20 @@ restored-IsSound at v cs s r places h =
   where
     older : List Entry
     older = take at s.stack
+
     newer : List Entry
     newer = drop (suc at) s.stack
+
     b : Clear cs newer
     b = between s v cs older newer (split_at s.stack at (Gone v cs) r.entry) places r.roots
+
     entries : (w : ℕ → Bool) → Accords s w → (list_all (entry_value w) older ≡ true) × (clauses_value (own_value w) cs ≡ true) × (list_all (entry_value w) newer ≡ true)
     entries w a =
         let p : (list_all (entry_value w) older ≡ true) × ((clauses_value (own_value w) cs && list_all (entry_value w) newer) ≡ true) =
-            and_parts _ _ (sym (list_all-append (entry_value w) older (Gone v cs ∷ newer)) ∙ (ap (list_all (entry_value w)) (sym (split_at s.stack at (Gone v cs) r.entry)) ∙ h.stack w a)) in
+        and_parts _ _ (sym (list_all-append (entry_value w) older (Gone v cs ∷ newer)) ∙ (ap (list_all (entry_value w)) (sym (split_at s.stack at (Gone v cs) r.entry)) ∙ h.stack w a)) in
         let q : (clauses_value (own_value w) cs ≡ true) × (list_all (entry_value w) newer ≡ true) = and_parts _ _ p.1 in
         (p.0, q.0, q.1)
+
     put : (w : ℕ → Bool) → (list_all (entry_value w) older ≡ true) × (clauses_value (own_value w) cs ≡ true) × (list_all (entry_value w) newer ≡ true) → clauses_value (own_value w) (put_in_all (root (drop (suc at) s.stack)) cs) ≡ true
     put w p =
         put_in_all_value w (root newer) cs
@@ -167,23 +176,32 @@ restored-IsPlaced at v cs s r h =
   where
     older : List Entry
     older = take at s.stack
+
     newer : List Entry
     newer = drop (suc at) s.stack
+
     stack_is : s.stack ≡ older ++ Gone v cs ∷ newer
     stack_is = split_at s.stack at (Gone v cs) r.entry
+
     after : ℕ → Bool
     after = with_value (is_active s) v.0 true
+
     here : OwnLit → Bool
     here l = (l.var.0 == v.0) || (is_active s l.var.0 || list_any (names l.var.0) newer)
+
     in_order : ordered (is_active s) (older ++ Gone v cs ∷ newer) ≡ true
     in_order = subst (λ z. ordered (is_active s) z ≡ true) stack_is h.placed.in_order
+
     each_here : each_lit here cs ≡ true
     each_here = let p : (each_lit here cs ≡ true) × (ordered (is_active s) newer ≡ true) = and_parts _ _ (ordered_newer (is_active s) older (Gone v cs ∷ newer) in_order) in p.0
+
     here_bool : (b a n : Bool) → (b || (a || n)) ≡ true → (cond b true a || n) ≡ true
     here_bool true a n e = refl
     here_bool false a n e = e
+
     newer_order : ordered after newer ≡ true
     newer_order = ordered_mono (is_active s) after (with_true (is_active s) v.0) newer (ordered_newer (is_active s) (Gone v cs ∷ []) newer (ordered_newer (is_active s) older (Gone v cs ∷ newer) in_order))
+
     step : (l : OwnLit) → here l ≡ true → root_passes (λ k. after k.var.0) (root newer l) ≡ true
     step l e = root_active after newer l newer_order (here_bool (l.var.0 == v.0) (is_active s l.var.0) (list_any (names l.var.0) newer) e)
 
@@ -194,7 +212,7 @@ restored_clean at v cs s r h =
       learned = h.learned;
       stack =
           let p : (list_all is_clean_entry (take at s.stack) ≡ true) × ((list_all is_clean cs && list_all is_clean_entry (drop (suc at) s.stack)) ≡ true) =
-              and_parts _ _ (sym (list_all-append is_clean_entry (take at s.stack) (Gone v cs ∷ drop (suc at) s.stack)) ∙ (ap (list_all is_clean_entry) (sym (split_at s.stack at (Gone v cs) r.entry)) ∙ h.stack)) in
+          and_parts _ _ (sym (list_all-append is_clean_entry (take at s.stack) (Gone v cs ∷ drop (suc at) s.stack)) ∙ (ap (list_all is_clean_entry) (sym (split_at s.stack at (Gone v cs) r.entry)) ∙ h.stack)) in
           let q : (list_all is_clean cs ≡ true) × (list_all is_clean_entry (drop (suc at) s.stack) ≡ true) = and_parts _ _ p.1 in
           list_all-append is_clean_entry (take at s.stack) (drop (suc at) s.stack) ∙ and_from _ _ p.0 q.1;
     }

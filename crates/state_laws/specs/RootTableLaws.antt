@@ -1,18 +1,16 @@
 -- What a literal comes to, read from the entry that names its variable.
-use Rattle.std.proofs.Common.{◌≡◌, ℕ, suc, ◌+◌, ◌<◌, ◌≤◌, ◌==◌, Bool, true, false, cond, not, ◌||◌, List, [], ◌∷◌, ◌++◌, Option, Some, None, find, refl, sym, ap, subst, ◌∙◌, ⊎_elim, arith, length, eqb-true, eq-eqb, ne_eqb}
-use Rattle.std.proofs.lemmas.Bool.{and_parts, or_cases, or_right, eqb-false, false≢true}
-use Rattle.std.proofs.lemmas.List.Folds.{find-append}
+use Rattle.std.proofs.Common.{◌≡◌, ℕ, suc, ◌+◌, ◌<◌, ◌≤◌, ◌==◌, Bool, true, false, cond, not, ◌||◌, List, [], ◌∷◌, ◌++◌, Option, Some, None, find, refl, sym, ap, ◌∙◌, ⊎_elim, arith, length, eqb-true, eq-eqb}
+use Rattle.std.proofs.lemmas.Bool.{and_parts, or_cases, or_right, false≢true}
 use Rattle.std.specs.List.{list_any}
 use Rattle.sat_lits.specs.Truth.{signed}
 use Rattle.sat_lits.specs.declared.literal.Own.{Own}
 use Rattle.sat_lits.specs.declared.literal.OwnLit.{OwnLit}
 use Rattle.rebuild_stack.specs.Entries.{named, names, others_pass, ordered, times_named}
 use Rattle.rebuild_stack.specs.Roots.{turned, root}
-use Rattle.rebuild_stack.specs.OrderLaws.{times_any, times_none}
+use Rattle.rebuild_stack.specs.OrderLaws.{times_any}
 use Rattle.rebuild_stack.specs.CommonLaws.{cond_at}
 use Rattle.rebuild_stack.specs.declared.entry.Entry.{Entry}
 use Rattle.rebuild_stack.specs.declared.entry.Entry.TheVariants.{Fix, Equal, Gone}
-use Rattle.rebuild_stack.specs.declared.entry.Root.{Root}
 use Rattle.rebuild_stack.specs.declared.entry.Root.TheVariants.{Known, Last, Lost}
 use Rattle.state_laws.specs.PlaceLaws.{one_if}
 
@@ -66,9 +64,11 @@ entry_of-push k s e h = go (k == named e) refl
         step : (b : Bool) → (list_any (names n) s ≡ false → entry_of n (s ++ e ∷ []) ≡ cond (names n e) (Some e) None) → (b || list_any (names n) s) ≡ false → cond b (Some x) (entry_of n (s ++ e ∷ [])) ≡ cond (names n e) (Some e) None
         step true r q = absurd (false≢true (sym q))
         step false r q = r q
+
     other : (n : ℕ) (s : List Entry) → names n e ≡ false → entry_of n (s ++ e ∷ []) ≡ entry_of n s
     other n [] q = ap (λ b. cond b (Some e) None) q
     other n (x ∷ s) q = ap (λ z. cond (names n x) (Some x) z) (other n s q)
+
     go : (b : Bool) → (k == named e) ≡ b → entry_of k (s ++ e ∷ []) ≡ cond b (Some e) (entry_of k s)
     go true q = ap (λ (n : ℕ). entry_of n (s ++ e ∷ [])) (eqb-true _ _ q) ∙ (first (named e) s h ∙ ap (λ b. cond b (Some e) None) (eq-eqb (named e) (named e) refl))
     go false q = other k s q
@@ -111,6 +111,7 @@ root_fixed (e ∷ newer) l k h = go (names l.var.0 e) refl (root_fixed newer l k
     here n q =
         ap (λ (x : Entry). root (x ∷ newer) l) q
         ∙ cond_here (l.var.0 == k.var.0) (Known (signed l.negative (not k.negative))) (root newer l) (sym (ap (names l.var.0) q) ∙ n)
+
     go : (b : Bool) → names l.var.0 e ≡ b → (entry_of l.var.0 newer ≡ Some (Fix k) → root newer l ≡ Known (signed l.negative (not k.negative))) → cond b (Some e) (entry_of l.var.0 newer) ≡ Some (Fix k)
         → root (e ∷ newer) l ≡ Known (signed l.negative (not k.negative))
     go true n r q = here n (some_entry e (Fix k) q)
@@ -123,6 +124,7 @@ root_gone (e ∷ newer) l v cs h = go (names l.var.0 e) refl (root_gone newer l 
   where
     here : names l.var.0 e ≡ true → e ≡ Gone v cs → root (e ∷ newer) l ≡ Lost v
     here n q = ap (λ (x : Entry). root (x ∷ newer) l) q ∙ cond_here (l.var.0 == v.0) (Lost v) (root newer l) (sym (ap (names l.var.0) q) ∙ n)
+
     go : (b : Bool) → names l.var.0 e ≡ b → (entry_of l.var.0 newer ≡ Some (Gone v cs) → root newer l ≡ Lost v) → cond b (Some e) (entry_of l.var.0 newer) ≡ Some (Gone v cs) → root (e ∷ newer) l ≡ Lost v
     go true n r q = here n (some_entry e (Gone v cs) q)
     go false n r q = root_skip e newer l n ∙ r q
@@ -144,6 +146,7 @@ not_named active e newer k h o = go (names k e) (h k)
         (λ (a : active k ≡ true). let d : cond {A = ℕ} (active k) 1 0 ≡ 1 = one_if (active k) a in absurd (omega arith))
         (λ (a : list_any (names k) newer ≡ true). let d : 1 ≤ times_named k newer = times_any k newer a in absurd (omega arith))
         (or_cases _ _ o)
+
     go : (b : Bool) → cond {A = ℕ} b 1 0 + times_named k newer + cond {A = ℕ} (active k) 1 0 ≤ 1 → b ≡ false
     go true c = absurd (twice c)
     go false c = refl
@@ -155,9 +158,11 @@ other_is_placed active (e ∷ newer) n v k o h = go (names n e) (λ q. other_is_
   where
     p : (others_pass (λ j. active j || list_any (names j) newer) e ≡ true) × (ordered active newer ≡ true)
     p = and_parts _ _ o
+
     more : (a b c : Bool) → (a || c) ≡ true → (a || (b || c)) ≡ true
     more true b c q = refl
     more false b c q = or_right b c q
+
     go : (b : Bool) → (entry_of n newer ≡ Some (Equal v k) → (active k.var.0 || list_any (names k.var.0) newer) ≡ true) → cond b (Some e) (entry_of n newer) ≡ Some (Equal v k) → (active k.var.0 || (names k.var.0 e || list_any (names k.var.0) newer)) ≡ true
     go true r q = more (active k.var.0) (names k.var.0 e) (list_any (names k.var.0) newer) (sym (ap (others_pass (λ j. active j || list_any (names j) newer)) (some_entry e (Equal v k) q)) ∙ p.0)
     go false r q = more (active k.var.0) (names k.var.0 e) (list_any (names k.var.0) newer) (r q)
@@ -169,13 +174,16 @@ root_replaced active (e ∷ newer) l v k c o h = go (names l.var.0 e) refl (λ q
   where
     p : (others_pass (λ j. active j || list_any (names j) newer) e ≡ true) × (ordered active newer ≡ true)
     p = and_parts _ _ o
+
     past_this : (active k.var.0 || list_any (names k.var.0) newer) ≡ true → root (e ∷ newer) (turned l.negative k) ≡ root newer (turned l.negative k)
     past_this q = root_skip e newer (turned l.negative k) (not_named active e newer k.var.0 c q)
+
     here : names l.var.0 e ≡ true → e ≡ Equal v k → root (e ∷ newer) l ≡ root (e ∷ newer) (turned l.negative k)
     here n q =
         ap (λ (x : Entry). root (x ∷ newer) l) q
         ∙ (cond_here (l.var.0 == v.0) (root newer (turned l.negative k)) (root newer l) (sym (ap (names l.var.0) q) ∙ n)
         ∙ sym (past_this (sym (ap (others_pass (λ j. active j || list_any (names j) newer)) q) ∙ p.0)))
+
     go : (b : Bool) → names l.var.0 e ≡ b → (entry_of l.var.0 newer ≡ Some (Equal v k) → root newer l ≡ root newer (turned l.negative k)) → cond b (Some e) (entry_of l.var.0 newer) ≡ Some (Equal v k)
         → root (e ∷ newer) l ≡ root (e ∷ newer) (turned l.negative k)
     go true n r q = here n (some_entry e (Equal v k) q)
@@ -199,8 +207,10 @@ depth_replaced active (e ∷ newer) n v k c o h = go (names n e) (λ q. depth_re
   where
     p : (others_pass (λ j. active j || list_any (names j) newer) e ≡ true) × (ordered active newer ≡ true)
     p = and_parts _ _ o
+
     past_this : (active k.var.0 || list_any (names k.var.0) newer) ≡ true → depth k.var.0 (e ∷ newer) ≡ depth k.var.0 newer
     past_this q = cond_at (names k.var.0 e) (suc (length newer)) (depth k.var.0 newer) (not_named active e newer k.var.0 c q)
+
     go : (b : Bool) → (entry_of n newer ≡ Some (Equal v k) → depth k.var.0 newer < depth n newer) → cond b (Some e) (entry_of n newer) ≡ Some (Equal v k) → depth k.var.0 (e ∷ newer) < cond b (suc (length newer)) (depth n newer)
     go true r q =
         let a : depth k.var.0 (e ∷ newer) ≡ depth k.var.0 newer = past_this (sym (ap (others_pass (λ j. active j || list_any (names j) newer)) (some_entry e (Equal v k) q)) ∙ p.0) in

@@ -1,5 +1,5 @@
 -- A state stands when an outer clause is taken, as an item or as a shared entry.
-use Rattle.std.proofs.Common.{◌≡◌, ℕ, zero, suc, ◌+◌, ◌<◌, Bool, true, false, not, nat_lt, ◌&&◌, List, [], ◌∷◌, ◌++◌, refl, sym, ap, ◌∙◌, arith, length, get_or, map, Option, Some, None, option_to_list}
+use Rattle.std.proofs.Common.{◌≡◌, ℕ, zero, suc, ◌+◌, ◌<◌, Bool, true, false, not, nat_lt, ◌&&◌, List, [], ◌∷◌, refl, sym, ap, ◌∙◌, arith, length, get_or, Option, Some, None, option_to_list}
 use Rattle.std.proofs.lemmas.Bool.{and_parts, and_from, not-true, ltb-true}
 use Rattle.std.proofs.lemmas.List.{get_or-map, length-map}
 use Rattle.std.proofs.lemmas.List.Folds.{list_all-append, list_all-map}
@@ -16,7 +16,7 @@ use Rattle.sat_lits.specs.declared.shared.Shared.{Shared}
 use Rattle.rebuild_stack.specs.Values.{own_value, each_lit}
 use Rattle.rebuild_stack.specs.Entries.{rebuild, entry_value}
 use Rattle.rebuild_stack.specs.Roots.{root, is_lost, root_value, root_passes}
-use Rattle.rebuild_stack.specs.PutIn.{put_in, option_value, option_passes, option_clean, is_clean}
+use Rattle.rebuild_stack.specs.PutIn.{option_value, option_passes, option_clean, is_clean}
 use Rattle.rebuild_stack.specs.RootLaws.{rebuild_root, holds_root}
 use Rattle.rebuild_stack.specs.OrderLaws.{root_active}
 use Rattle.rebuild_stack.specs.PutInLaws.{put_in_value, put_in_passes, put_in_clean}
@@ -93,14 +93,14 @@ held_rebuilt s c w t = clause_value_agree (fit s) (λ l. root_value w (came_to s
 before_taken : (s : State) (c : List Lit) (w : ℕ → Bool) → Accords (taken c s) w → (Accords s w) × (satisfies_clause (outer_part s.definitions w) c ≡ true)
 before_taken s c w a =
     let p : (list_all (satisfies (outer_part s.definitions w)) s.items ≡ true) × ((satisfies_clause (outer_part s.definitions w) c && true) ≡ true) =
-        and_parts _ _ (sym (list_all-append (satisfies (outer_part s.definitions w)) s.items (Clause c ∷ [])) ∙ a.items) in
+    and_parts _ _ (sym (list_all-append (satisfies (outer_part s.definitions w)) s.items (Clause c ∷ [])) ∙ a.items) in
     let q : (satisfies_clause (outer_part s.definitions w) c ≡ true) × (true ≡ true) = and_parts _ _ p.1 in
     (record { defined = a.defined; items = p.0; entries = a.entries }, q.0)
 
 before_imported : (s : State) (x : Shared) (w : ℕ → Bool) → Accords (imported x s) w → (Accords s w) × (satisfies_clause (outer_part s.definitions w) x.clause ≡ true)
 before_imported s x w a =
     let p : (satisfies_entries (outer_part s.definitions w) s.entries ≡ true) × ((satisfies_clause (outer_part s.definitions w) x.clause && true) ≡ true) =
-        and_parts _ _ (sym (list_all-append (λ (e : Shared). satisfies_clause (outer_part s.definitions w) e.clause) s.entries (x ∷ [])) ∙ a.entries) in
+    and_parts _ _ (sym (list_all-append (λ (e : Shared). satisfies_clause (outer_part s.definitions w) e.clause) s.entries (x ∷ [])) ∙ a.entries) in
     let q : (satisfies_clause (outer_part s.definitions w) x.clause ≡ true) × (true ≡ true) = and_parts _ _ p.1 in
     (record { defined = a.defined; items = a.items; entries = p.0 }, q.0)
 

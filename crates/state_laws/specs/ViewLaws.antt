@@ -6,12 +6,12 @@ use Rattle.std.proofs.lemmas.List.Elements.{filter-append}
 use Rattle.std.proofs.Math.ListN.{get_or-map}
 use Rattle.std.specs.Bool.{beq}
 use Rattle.std.specs.List.{list_all, list_any, cons_option}
+use Rattle.sat_lits.specs.ListLaws.{all_mono}
 use Rattle.sat_lits.specs.InLits.{is_distinct}
 use Rattle.sat_lits.specs.declared.literal.Own.{Own}
 use Rattle.sat_lits.specs.declared.literal.OwnLit.{OwnLit}
 use Rattle.sat_lits.specs.declared.literal.Inner.{Inner}
 use Rattle.sat_lits.specs.declared.literal.InLit.{InLit}
-use Rattle.sat_lits.specs.declared.literal.Var.{Var}
 use Rattle.sat_lits.specs.declared.formula.Item.{Item}
 use Rattle.sat_lits.specs.declared.shared.Shared.{Shared}
 use Rattle.rebuild_stack.specs.Values.{each_lit}
@@ -19,12 +19,11 @@ use Rattle.rebuild_stack.specs.PutIn.{same_lit, put_in, put_in_all, is_clean}
 use Rattle.rebuild_stack.specs.declared.entry.Entry.{Entry}
 use Rattle.rebuild_stack.specs.declared.entry.Root.{Root}
 use Rattle.clause_store.specs.Store.{Store, Held, IsKept, hard_of, learned_of}
-use Rattle.var_maps.specs.Maps.{Maps, Matched, HasFree, Added, Revived, inner_at, owner_at, retired, number_or}
+use Rattle.var_maps.specs.Maps.{Maps, Matched, inner_at, owner_at, retired, number_or}
 use Rattle.state_laws.specs.declared.definition.Definition.{Definition}
-use Rattle.state_laws.specs.State.{State}
 use Rattle.state_laws.specs.Resolution.{mentions}
-use Rattle.state_laws.specs.Held.{own_or, own_of, own_clause, own_clauses, InClause, OwnClause, strip, in_own, hard_clause, relisted, put_each, touches, is_among, without_ids, ExtendsBy, Collected}
-use Rattle.state_laws.specs.Kernel.{Kernel, state_of}
+use Rattle.state_laws.specs.Held.{own_or, own_of, own_clause, own_clauses, InClause, OwnClause, strip, in_own, hard_clause, relisted, put_each, touches, is_among, without_ids, ExtendsBy}
+use Rattle.state_laws.specs.Kernel.{Kernel, state_of, Standing}
 use Rattle.state_laws.specs.HeldLaws.{drop_those, keep_news}
 
 -- a kernel with these parts is seen as the state that has them
@@ -200,8 +199,10 @@ retired_view m k i e h cs a =
     gone [] k q = false≢true q
     gone (x ∷ xs) zero q = false≢true q
     gone (x ∷ xs) (suc k) q = gone xs k q
+
     same : (x y : Own) → Some x ≡ Some y → x ≡ y
     same x y q = cc
+
     still : (v : Own) (j : ℕ) → number_or 0 (inner_at m k) ≡ i.0 → j ≡ number_or 0 (inner_at m k) → owner_at m j ≡ Some v → is_some (get_or (set m.inners k None) v.0 None) ≡ true → is_some (get_or (set m.inners k None) k None) ≡ true
     still v j n z o t = subst (λ (w : Own). is_some (get_or (set m.inners k None) w.0 None) ≡ true) (same v (record { 0 = k }) (sym o ∙ (ap (owner_at m) (z ∙ n) ∙ h.inner_owner k i e))) t
 
@@ -212,6 +213,7 @@ numbered_view m n v i free given cs a = view_clauses m n (λ j. get_or (map is_s
   where
     clash : (w : Own) → Some w ≡ None → ⊥
     clash w q = cc
+
     same : (j : ℕ) (w : Own) → owner_at m j ≡ Some w → owner_at n j ≡ Some w
     same j w o = given j ∙ (ap (λ (b : Bool). cond b (Some v) (owner_at m j)) (ne_eqb j i.0 (λ z. clash w (sym o ∙ (ap (owner_at m) z ∙ free)))) ∙ o)
 
@@ -227,6 +229,25 @@ clean_distinct m (l ∷ c) e =
     one_own k t =
         let p : ((l.var.0 == k.var.0) ≡ true) × (beq l.negative k.negative ≡ true) = and_parts _ _ t in
         and_from _ _ (eq-eqb _ _ (ap (λ (n : ℕ). (own_or (length m.inners) (owner_at m n)).0) (eqb-true _ _ p.0))) p.1
+
     any_own : (d : List InLit) → list_any (Rattle.sat_lits.specs.InLits.same_lit l) d ≡ true → list_any (same_lit (own_of m l)) (own_clause m d) ≡ true
     any_own [] t = t
     any_own (k ∷ d) t = Rattle.std.proofs.Common.⊎_elim (λ f. or_left (same_lit (own_of m l) (own_of m k)) (list_any (same_lit (own_of m l)) (own_clause m d)) (one_own k f)) (λ f. or_right (same_lit (own_of m l) (own_of m k)) (list_any (same_lit (own_of m l)) (own_clause m d)) (any_own d f)) (Rattle.std.proofs.lemmas.Bool.or_cases _ _ t)
+
+-- the stored literals of a clause over active variables have owners
+pub owned_lits : (m : Maps) (c : List InLit) → list_all (λ l. get_or (map is_some m.inners) l.var.0 false) (own_clause m c) ≡ true → list_all (λ l. is_some (owner_at m l.var.0)) c ≡ true
+owned_lits m [] e = refl
+owned_lits m (l ∷ c) e =
+    let a : (get_or (map is_some m.inners) (own_of m l).var.0 false ≡ true) × (list_all (λ (k : OwnLit). get_or (map is_some m.inners) k.var.0 false) (own_clause m c) ≡ true) = and_parts _ _ e in
+    and_from _ _ (go (owner_at m l.var.0) a.0) (owned_lits m c a.1)
+  where
+    go : (o : Option Own) → get_or (map is_some m.inners) (own_or (length m.inners) o).0 false ≡ true → is_some o ≡ true
+    go None q = absurd (false≢true (sym (past_active m.inners) ∙ q))
+    go (Some v) q = refl
+
+-- each literal that a standing kernel stores is of an active variable
+pub stored_lits_owned : (k : Kernel) → Standing k → list_all (λ h. list_all (λ l. is_some (owner_at k.maps l.var.0)) h.lits) k.store.held ≡ true
+stored_lits_owned k h =
+    all_mono (λ (x : Held). list_all (λ (l : OwnLit). get_or (map is_some k.maps.inners) l.var.0 false) (own_clause k.maps x.lits)) (λ (x : Held). list_all (λ (l : InLit). is_some (owner_at k.maps l.var.0)) x.lits)
+    (λ x a. owned_lits k.maps x.lits a) k.store.held
+    (both_lists k.maps (list_all (λ (l : OwnLit). get_or (map is_some k.maps.inners) l.var.0 false)) k.store.held h.stands.places.placed.hard h.stands.places.placed.learned)

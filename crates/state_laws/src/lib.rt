@@ -7,5 +7,6 @@
 #![tactic(auto)]
 
 mod definition;
+pub mod laws;
 
 pub use definition::Definition;
