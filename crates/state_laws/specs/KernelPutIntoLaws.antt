@@ -7,6 +7,7 @@ use Rattle.sat_lits.specs.Truth.{with_value}
 use Rattle.sat_lits.specs.ListLaws.{all_mono}
 use Rattle.sat_lits.specs.declared.literal.OwnLit.{OwnLit}
 use Rattle.sat_lits.specs.declared.literal.Inner.{Inner}
+use Rattle.sat_lits.specs.declared.literal.InLit.{InLit}
 use Rattle.rebuild_stack.specs.Values.{each_lit}
 use Rattle.rebuild_stack.specs.Entries.{named}
 use Rattle.rebuild_stack.specs.Roots.{root, root_passes}
@@ -96,7 +97,7 @@ pushed_state k n e ids clauses t p q h =
     active : (j : ℕ) → is_active (put_into e (state_of k)) j ≡ is_some (get_or (set k.maps.inners (named e) None) j None)
     active j = ap (λ (z : List Bool). get_or z j false) (sym (map-set is_some k.maps.inners (named e) None)) ∙ get_is_some (set k.maps.inners (named e) None) j
 
-    view : (cs : List (List Rattle.sat_lits.specs.declared.literal.InLit.InLit)) (made : List (List OwnLit)) → own_clauses k.maps cs ≡ made → each_lit (λ l. is_active (put_into e (state_of k)) l.var.0) made ≡ true → own_clauses n.maps cs ≡ made
+    view : (cs : List (List InLit)) (made : List (List OwnLit)) → own_clauses k.maps cs ≡ made → each_lit (λ l. is_active (put_into e (state_of k)) l.var.0) made ≡ true → own_clauses n.maps cs ≡ made
     view cs made f a =
         ap (λ (m : Maps). own_clauses m cs) p.maps
         ∙ (sym (retired_view k.maps (named e) i.0 i.1 p.matched cs

@@ -1,6 +1,6 @@
 -- A state stands when an entry that fixes or replaces a variable is put into it.
-use Rattle.std.proofs.Common.{◌≡◌, ℕ, ◌==◌, Bool, true, false, not, ◌&&◌, List, [], ◌∷◌, ◌++◌, refl, sym, ap, ap₂, subst, ◌∙◌, filter, length}
-use Rattle.std.proofs.lemmas.Bool.{and_from, or_parts}
+use Rattle.std.proofs.Common.{◌≡◌, ℕ, Bool, true, false, not, ◌&&◌, List, [], ◌∷◌, refl, sym, ap, ap₂, subst, ◌∙◌, filter, length, ◌||◌, cond}
+use Rattle.std.proofs.lemmas.Bool.{and_from, or_parts, true≢false}
 use Rattle.std.proofs.lemmas.List.Folds.{list_all-append}
 use Rattle.std.specs.List.{list_any, list_all}
 use Rattle.sat_lits.specs.Truth.{signed, clause_value, clauses_value, with_value}
@@ -9,7 +9,7 @@ use Rattle.sat_lits.specs.ClauseLaws.{clauses_value-append, clauses_value-filter
 use Rattle.sat_lits.specs.Meaning.{IsModel}
 use Rattle.sat_lits.specs.declared.literal.OwnLit.{OwnLit}
 use Rattle.rebuild_stack.specs.Values.{own_value, each_lit}
-use Rattle.rebuild_stack.specs.Entries.{undo, rebuild, entry_value, named, is_gone}
+use Rattle.rebuild_stack.specs.Entries.{undo, entry_value, named, is_gone, others_pass}
 use Rattle.rebuild_stack.specs.Roots.{root, root_value, root_passes}
 use Rattle.rebuild_stack.specs.PutIn.{put_in_all, is_clean}
 use Rattle.rebuild_stack.specs.CommonLaws.{each_mono}
@@ -36,10 +36,10 @@ pub clause_elsewhere : (w : ℕ → Bool) (v : ℕ) (x : Bool) (c : List OwnLit)
 clause_elsewhere w v x [] e = refl
 clause_elsewhere w v x (l ∷ c) e =
     let p : (is_of v l ≡ false) × (mentions v c ≡ false) = or_parts _ _ e in
-    ap₂ Rattle.std.proofs.Common.◌||◌ (ap (signed l.negative) (with_value_other w v x l.var.0 p.0)) (clause_elsewhere w v x c p.1)
+    ap₂ ◌||◌ (ap (signed l.negative) (with_value_other w v x l.var.0 p.0)) (clause_elsewhere w v x c p.1)
 
 others_step : (f g : List OwnLit → Bool) (m : Bool) (c : List OwnLit) (cs : List (List OwnLit)) → (m ≡ false → f c ≡ g c) → list_all f cs ≡ list_all g cs
-    → list_all f (Rattle.std.proofs.Common.cond (not m) (c ∷ cs) cs) ≡ list_all g (Rattle.std.proofs.Common.cond (not m) (c ∷ cs) cs)
+    → list_all f (cond (not m) (c ∷ cs) cs) ≡ list_all g (cond (not m) (c ∷ cs) cs)
 others_step f g true c cs p e = e
 others_step f g false c cs p e = ap₂ ◌&&◌ (p refl) e
 
@@ -84,7 +84,7 @@ put_through_holds e g w h cs =
     ∙ (and_comm (clauses_value (own_value w) (filter (λ c. not (mentions (named e) c)) cs)) (clauses_value (own_value w) (filter (mentions (named e)) cs)) ∙ sym (clauses_value-filter (own_value w) (mentions (named e)) cs)))
 
 -- their literals are active without the entry's variable
-put_through_active : (active : ℕ → Bool) (e : Entry) → is_gone e ≡ false → Rattle.rebuild_stack.specs.Entries.others_pass (with_value active (named e) false) e ≡ true → (cs : List (List OwnLit))
+put_through_active : (active : ℕ → Bool) (e : Entry) → is_gone e ≡ false → others_pass (with_value active (named e) false) e ≡ true → (cs : List (List OwnLit))
     → each_lit (λ l. active l.var.0) cs ≡ true → each_lit (λ l. with_value active (named e) false l.var.0) (put_through e cs) ≡ true
 put_through_active active e g o cs f =
     list_all-append (list_all (λ l. with_value active (named e) false l.var.0)) (filter (λ c. not (mentions (named e) c)) cs) (put_in_all (root (e ∷ [])) (filter (mentions (named e)) cs))
@@ -102,7 +102,7 @@ put_through_clean e cs f =
 kept_is_clean : (e : Entry) → is_gone e ≡ false → is_clean_entry e ≡ true
 kept_is_clean (Fix l) g = refl
 kept_is_clean (Equal v l) g = refl
-kept_is_clean (Gone v cs) g = absurd (Rattle.std.proofs.Common.true≢false g)
+kept_is_clean (Gone v cs) g = absurd (true≢false g)
 
 -- the state stands when the entry is put into it
 pub put_into-Stands : (e : Entry) (s : State) → Pushable s e → EntryFollows s e → Stands s → Stands (put_into e s)

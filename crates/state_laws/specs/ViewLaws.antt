@@ -1,13 +1,13 @@
 -- Stored clauses read in own literals, when the store or the maps change.
-use Rattle.std.proofs.Common.{◌≡◌, ℕ, zero, suc, ◌+◌, ◌==◌, Bool, true, false, cond, not, ltb, leb, ◌&&◌, ◌||◌, List, [], ◌∷◌, ◌++◌, refl, sym, ap, ap₂, subst, ◌∙◌, arith, length, get_or, set, filter, map, filter_map, Option, Some, None, is_some, ne_eqb, eqb-true, eq-eqb, get_or-set_other}
-use Rattle.std.proofs.lemmas.Bool.{and_parts, and_from, or_parts, or_left, or_right, false≢true, true≢false, false_from_ne_true}
+use Rattle.std.proofs.Common.{◌≡◌, ℕ, zero, suc, ◌==◌, Bool, true, false, cond, not, ◌&&◌, List, [], ◌∷◌, ◌++◌, refl, sym, ap, ap₂, subst, ◌∙◌, length, get_or, set, filter, map, Option, Some, None, is_some, ne_eqb, eqb-true, eq-eqb, get_or-set_other, ⊎_elim}
+use Rattle.std.proofs.lemmas.Bool.{and_parts, and_from, or_left, or_right, false≢true, false_from_ne_true, or_cases}
 use Rattle.std.proofs.lemmas.List.{map-append}
 use Rattle.std.proofs.lemmas.List.Elements.{filter-append}
 use Rattle.std.proofs.Math.ListN.{get_or-map}
 use Rattle.std.specs.Bool.{beq}
 use Rattle.std.specs.List.{list_all, list_any, cons_option}
 use Rattle.sat_lits.specs.ListLaws.{all_mono}
-use Rattle.sat_lits.specs.InLits.{is_distinct}
+use Rattle.sat_lits.specs.InLits.{is_distinct, same_lit as same_in_lit}
 use Rattle.sat_lits.specs.declared.literal.Own.{Own}
 use Rattle.sat_lits.specs.declared.literal.OwnLit.{OwnLit}
 use Rattle.sat_lits.specs.declared.literal.Inner.{Inner}
@@ -15,6 +15,7 @@ use Rattle.sat_lits.specs.declared.literal.InLit.{InLit}
 use Rattle.sat_lits.specs.declared.formula.Item.{Item}
 use Rattle.sat_lits.specs.declared.shared.Shared.{Shared}
 use Rattle.rebuild_stack.specs.Values.{each_lit}
+use Rattle.rebuild_stack.specs.Roots.{turned}
 use Rattle.rebuild_stack.specs.PutIn.{same_lit, put_in, put_in_all, is_clean}
 use Rattle.rebuild_stack.specs.declared.entry.Entry.{Entry}
 use Rattle.rebuild_stack.specs.declared.entry.Root.{Root}
@@ -221,18 +222,18 @@ numbered_view m n v i free given cs a = view_clauses m n (λ j. get_or (map is_s
 pub clean_distinct : (m : Maps) (c : List InLit) → is_clean (own_clause m c) ≡ true → is_distinct c ≡ true
 clean_distinct m [] e = refl
 clean_distinct m (l ∷ c) e =
-    let a : ((not (list_any (same_lit (own_of m l)) (own_clause m c)) && not (list_any (same_lit (Rattle.rebuild_stack.specs.Roots.turned true (own_of m l))) (own_clause m c))) ≡ true) × (is_clean (own_clause m c) ≡ true) = and_parts _ _ e in
-    let b : (not (list_any (same_lit (own_of m l)) (own_clause m c)) ≡ true) × (not (list_any (same_lit (Rattle.rebuild_stack.specs.Roots.turned true (own_of m l))) (own_clause m c)) ≡ true) = and_parts _ _ a.0 in
-    and_from _ _ (ap not (false_from_ne_true (list_any (Rattle.sat_lits.specs.InLits.same_lit l) c) (λ t. absurd (false≢true (sym (ap not (any_own c t)) ∙ b.0))))) (clean_distinct m c a.1)
+    let a : ((not (list_any (same_lit (own_of m l)) (own_clause m c)) && not (list_any (same_lit (turned true (own_of m l))) (own_clause m c))) ≡ true) × (is_clean (own_clause m c) ≡ true) = and_parts _ _ e in
+    let b : (not (list_any (same_lit (own_of m l)) (own_clause m c)) ≡ true) × (not (list_any (same_lit (turned true (own_of m l))) (own_clause m c)) ≡ true) = and_parts _ _ a.0 in
+    and_from _ _ (ap not (false_from_ne_true (list_any (same_in_lit l) c) (λ t. absurd (false≢true (sym (ap not (any_own c t)) ∙ b.0))))) (clean_distinct m c a.1)
   where
-    one_own : (k : InLit) → Rattle.sat_lits.specs.InLits.same_lit l k ≡ true → same_lit (own_of m l) (own_of m k) ≡ true
+    one_own : (k : InLit) → same_in_lit l k ≡ true → same_lit (own_of m l) (own_of m k) ≡ true
     one_own k t =
         let p : ((l.var.0 == k.var.0) ≡ true) × (beq l.negative k.negative ≡ true) = and_parts _ _ t in
         and_from _ _ (eq-eqb _ _ (ap (λ (n : ℕ). (own_or (length m.inners) (owner_at m n)).0) (eqb-true _ _ p.0))) p.1
 
-    any_own : (d : List InLit) → list_any (Rattle.sat_lits.specs.InLits.same_lit l) d ≡ true → list_any (same_lit (own_of m l)) (own_clause m d) ≡ true
+    any_own : (d : List InLit) → list_any (same_in_lit l) d ≡ true → list_any (same_lit (own_of m l)) (own_clause m d) ≡ true
     any_own [] t = t
-    any_own (k ∷ d) t = Rattle.std.proofs.Common.⊎_elim (λ f. or_left (same_lit (own_of m l) (own_of m k)) (list_any (same_lit (own_of m l)) (own_clause m d)) (one_own k f)) (λ f. or_right (same_lit (own_of m l) (own_of m k)) (list_any (same_lit (own_of m l)) (own_clause m d)) (any_own d f)) (Rattle.std.proofs.lemmas.Bool.or_cases _ _ t)
+    any_own (k ∷ d) t = ⊎_elim (λ f. or_left (same_lit (own_of m l) (own_of m k)) (list_any (same_lit (own_of m l)) (own_clause m d)) (one_own k f)) (λ f. or_right (same_lit (own_of m l) (own_of m k)) (list_any (same_lit (own_of m l)) (own_clause m d)) (any_own d f)) (or_cases _ _ t)
 
 -- the stored literals of a clause over active variables have owners
 pub owned_lits : (m : Maps) (c : List InLit) → list_all (λ l. get_or (map is_some m.inners) l.var.0 false) (own_clause m c) ≡ true → list_all (λ l. is_some (owner_at m l.var.0)) c ≡ true
