@@ -1,4 +1,3 @@
 pub mod Tables
-pub mod FreeNumbers
 pub mod Pairs
 pub mod Matching

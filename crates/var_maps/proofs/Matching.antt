@@ -5,10 +5,9 @@ use Rattle.std.specs.List.{slice_get}
 use Rattle.sat_lits.specs.declared.literal.Own.{Own}
 use Rattle.sat_lits.specs.declared.literal.Inner.{Inner}
 use Rattle.sat_lits.specs.declared.literal.Var.{Var}
-use Rattle.var_maps.specs.Numbers.{Numbers, Taken, used}
 use Rattle.var_maps.specs.Maps.{Maps, Matched, HasFree, Added, Revived, plain, inner_at, outer_at, owner_at}
-use Rattle.var_maps.specs.Kept.{Counted}
-use Rattle.var_maps.proofs.Tables.{get_or-push, slice_get-push, get_or-written, past_none, slice_past, some_within, used-push, used-filled, used-cleared, used_lt, used_full}
+use Rattle.var_maps.specs.Kept.{Numbered}
+use Rattle.var_maps.proofs.Tables.{get_or-push, slice_get-push, get_or-written, past_none, slice_past, some_within}
 use Rattle.var_maps.proofs.Pairs.{leads_more, leads_less, leads_same}
 
 -- a variable by its number, and the number of a variable
@@ -30,15 +29,47 @@ outer n = record { 0 = n }
 abbrev outer_number : Var → ℕ
 outer_number o = o.0
 
--- a taken number was free
-pub taken_free : (v : Own) (i : Inner) (p q : Numbers) → Taken v i p q → HasFree v i p.owners q.owners
-taken_free v i p q t = record {
-  free = t.free;
-  given = t.owners;
-  longer = t.longer;
-  by_one = t.by_one;
-  if_full = λ h. used_full p.owners (t.if_full h);
+-- the number of a new variable is free
+pub added_free : (m n : Maps) (v : Own) → Numbered m → v.0 ≡ length m.inners → n.owners ≡ m.owners ++ Some v ∷ [] → HasFree v (inner v.0) m.owners n.owners
+added_free m n v h e p = record {
+  free = past_none m.owners v.0 (omega (arith, e, h.places));
+  given = λ j. ap (λ (z : List (Option Own)). get_or z j None) p ∙ (get_or-push m.owners (Some v) j ∙ ap (λ (z : ℕ). cond (j == z) (Some v) (get_or m.owners j None)) (h.places ∙ sym e));
+  longer = omega (arith, l);
+  by_one = omega (arith, l);
 }
+  where
+    l : length n.owners ≡ length m.owners + 1
+    l = ap length p ∙ length-append m.owners (Some v ∷ [])
+
+-- the number of a variable that is not active is free
+own_free : (m : Maps) (k : ℕ) (o : Option Own) → Matched m → Numbered m → inner_at m k ≡ None → owner_at m k ≡ o → o ≡ None
+own_free m k None h g e q = refl
+own_free m k (Some w) h g e q = absurd (clash (inner k) (sym e ∙ (ap (inner_at m) (g.same w.0 (inner k) (h.owner_inner k w q)) ∙ h.owner_inner k w q)))
+  where
+    clash : (i : Inner) → None ≡ Some i → ⊥
+    clash i z = cc
+
+pub revived_free : (m n : Maps) (v : Own) → Matched m → Numbered m → v.0 < length m.inners → inner_at m v.0 ≡ None → n.owners ≡ set m.owners v.0 (Some v) → HasFree v (inner v.0) m.owners n.owners
+revived_free m n v h g there e p = record {
+  free = own_free m v.0 (owner_at m v.0) h g e refl;
+  given = λ j. ap (λ (z : List (Option Own)). get_or z j None) p ∙ get_or-written m.owners v.0 (Some v) j (omega (arith, there, g.places));
+  longer = omega (arith, l);
+  by_one = omega (arith, l);
+}
+  where
+    l : length n.owners ≡ length m.owners
+    l = ap length p ∙ length-set m.owners v.0 (Some v)
+
+-- each variable has its own number, where one more has
+same_more : (m n : Maps) (v : Own) → Numbered m → ((j : ℕ) → inner_at n j ≡ cond (j == v.0) (Some (inner v.0)) (inner_at m j)) → (k : ℕ) (i : Inner) → inner_at n k ≡ Some i → i.0 ≡ k
+same_more m n v h p k i e = go (k == v.0) refl (sym (p k) ∙ e)
+  where
+    number : (j : Inner) → Some j ≡ Some i → i.0 ≡ j.0
+    number j z = let y : j ≡ i = cc in sym (ap inner_number y)
+
+    go : (b : Bool) → (k == v.0) ≡ b → cond b (Some (inner v.0)) (inner_at m k) ≡ Some i → i.0 ≡ k
+    go true t z = number (inner v.0) z ∙ sym (eqb-true _ _ t)
+    go false t z = h.same k i z
 
 -- the outer numbers of a new outer variable
 pub outer_added : (m n : Maps) (v : Own) → Matched m → v.0 ≡ length m.inners → n.outer_numbers ≡ m.outer_numbers ++ Some (record { 0 = length m.outers }) ∷ [] → n.outers ≡ m.outers ++ v ∷ []
@@ -98,33 +129,28 @@ added_matched m n v i o h t e p q r = record {
     both = numbered m n v i h t (past_none m.inners v.0 (omega (arith, e)))
         (λ j. ap (λ (z : List (Option Inner)). get_or z j None) p ∙ (get_or-push m.inners (Some i) j ∙ ap (λ (z : ℕ). cond (j == z) (Some i) (inner_at m j)) (sym e)))
 
--- and the counts are still right
-pub added_counted : (m n : Maps) (i : Inner) → Counted m → length m.inners < 2 ^ 31 → used n.owners ≡ used m.owners + 1 → n.inners ≡ m.inners ++ Some i ∷ [] → length n.outers ≤ length m.outers + 1 → Counted n
-added_counted m n i h few u p o =
-    let l : length n.inners ≡ length m.inners + 1 = ap length p ∙ length-append m.inners (Some i ∷ []) in
+-- and the numbers are still right
+pub added_numbered : (m n : Maps) (v : Own) → Numbered m → length m.inners < 2 ^ 31 → v.0 ≡ length m.inners → n.inners ≡ m.inners ++ Some (inner v.0) ∷ [] → n.owners ≡ m.owners ++ Some v ∷ [] → length n.outers ≤ length m.outers + 1 → Numbered n
+added_numbered m n v h few e p q o =
+    let l : length n.inners ≡ length m.inners + 1 = ap length p ∙ length-append m.inners (Some (inner v.0) ∷ []) in
+    let k : length n.owners ≡ length m.owners + 1 = ap length q ∙ length-append m.owners (Some v ∷ []) in
     record {
       few = omega (arith, l, few);
       outer_count = omega (arith, l, o, h.outer_count);
-      in_use = u ∙ (ap (λ (z : ℕ). z + 1) h.in_use ∙ (sym (used-push m.inners i) ∙ sym (ap used p)));
+      places = omega (arith, l, k, h.places);
+      same = same_more m n v h (λ j. ap (λ (z : List (Option Inner)). get_or z j None) p ∙ (get_or-push m.inners (Some (inner v.0)) j ∙ ap (λ (z : ℕ). cond (j == z) (Some (inner v.0)) (inner_at m j)) (sym e)));
     }
 
--- a table that grows only where it is full stays as short as one with more entries
-fits : (a b k l u : ℕ) → b ≤ a + 1 → a ≤ k → u < k → l ≡ k → (a < b → u ≡ a) → b ≤ l
-fits a b k l u p q r e h = grind arith
-
 -- the tables still match after a variable was revived
-pub revived_matched : (m n : Maps) (v : Own) (i : Inner) → Matched m → Counted m → HasFree v i m.owners n.owners → v.0 < length m.inners → inner_at m v.0 ≡ None → (length m.owners < length n.owners → used m.owners ≡ length m.owners)
+pub revived_matched : (m n : Maps) (v : Own) (i : Inner) → Matched m → HasFree v i m.owners n.owners → length n.owners ≡ length m.owners → v.0 < length m.inners → inner_at m v.0 ≡ None
     → n.inners ≡ set m.inners v.0 (Some i) → n.outer_numbers ≡ m.outer_numbers → n.outers ≡ m.outers → Matched n
-revived_matched m n v i h c t there e full p q r = record {
+revived_matched m n v i h t same there e p q r = record {
   inner_owner = both.0;
   owner_inner = both.1;
   outer_own = leads_same outer_number own (outer_at m) (outer_at n) (slice_get m.outers) (slice_get n.outers) outers owns h.outer_own;
   own_outer = leads_same own_number outer (slice_get m.outers) (slice_get n.outers) (outer_at m) (outer_at n) owns outers h.own_outer;
   lengths = ap length q ∙ (h.lengths ∙ (sym (length-set m.inners v.0 (Some i)) ∙ sym (ap length p)));
-  inner_len =
-      let l : length n.inners ≡ length m.inners = ap length p ∙ length-set m.inners v.0 (Some i) in
-      let a : used m.inners < length m.inners = used_lt m.inners v.0 there e in
-      fits (length m.owners) (length n.owners) (length m.inners) (length n.inners) (used m.owners) t.by_one h.inner_len (let d : used m.owners ≡ used m.inners = c.in_use in omega arith) l full;
+  inner_len = let l : length n.inners ≡ length m.inners = ap length p ∙ length-set m.inners v.0 (Some i) in omega (arith, l, same, h.inner_len);
 }
   where
     outers : (j : ℕ) → outer_at n j ≡ outer_at m j
@@ -136,13 +162,14 @@ revived_matched m n v i h c t there e full p q r = record {
     both : ((k : ℕ) (j : Inner) → inner_at n k ≡ Some j → owner_at n j.0 ≡ Some (record { 0 = k })) × ((j : ℕ) (w : Own) → owner_at n j ≡ Some w → inner_at n w.0 ≡ Some (record { 0 = j }))
     both = numbered m n v i h t e (λ j. ap (λ (z : List (Option Inner)). get_or z j None) p ∙ get_or-written m.inners v.0 (Some i) j there)
 
-pub revived_counted : (m n : Maps) (v : Own) (i : Inner) → Counted m → v.0 < length m.inners → inner_at m v.0 ≡ None → used n.owners ≡ used m.owners + 1 → n.inners ≡ set m.inners v.0 (Some i) → n.outers ≡ m.outers → Counted n
-revived_counted m n v i h there e u p r =
-    let l : length n.inners ≡ length m.inners = ap length p ∙ length-set m.inners v.0 (Some i) in
+pub revived_numbered : (m n : Maps) (v : Own) → Numbered m → v.0 < length m.inners → length n.owners ≡ length m.owners → n.inners ≡ set m.inners v.0 (Some (inner v.0)) → n.outers ≡ m.outers → Numbered n
+revived_numbered m n v h there k p r =
+    let l : length n.inners ≡ length m.inners = ap length p ∙ length-set m.inners v.0 (Some (inner v.0)) in
     record {
       few = omega (arith, l, h.few);
       outer_count = omega (arith, l, h.outer_count, ap length r);
-      in_use = u ∙ (ap (λ (z : ℕ). z + 1) h.in_use ∙ (sym (used-filled m.inners v.0 i there e) ∙ sym (ap used p)));
+      places = omega (arith, l, k, h.places);
+      same = same_more m n v h (λ j. ap (λ (z : List (Option Inner)). get_or z j None) p ∙ get_or-written m.inners v.0 (Some (inner v.0)) j there);
     }
 
 some_there : {X : Type 0} (o : Option X) (x : X) → o ≡ Some x → is_some o ≡ true
@@ -174,16 +201,23 @@ retired_matched m n k i h e p q a b = record {
     owns : (j : ℕ) → slice_get n.outers j ≡ slice_get m.outers j
     owns j = ap (λ (z : List Own). slice_get z j) b
 
-pub retired_counted : (m n : Maps) (k : ℕ) (i : Inner) → Matched m → Counted m → inner_at m k ≡ Some i → n.inners ≡ set m.inners k None → n.owners ≡ set m.owners i.0 None → n.outers ≡ m.outers → Counted n
-retired_counted m n k i h c e p q r =
+pub retired_numbered : (m n : Maps) (k : ℕ) (i : Inner) → Numbered m → inner_at m k ≡ Some i → n.inners ≡ set m.inners k None → n.owners ≡ set m.owners i.0 None → n.outers ≡ m.outers → Numbered n
+retired_numbered m n k i h e p q r =
     let l : length n.inners ≡ length m.inners = ap length p ∙ length-set m.inners k None in
-    let a : used n.inners + 1 ≡ used m.inners = ap (λ (z : List (Option Inner)). used z + 1) p ∙ used-cleared m.inners k i e in
-    let b : used n.owners + 1 ≡ used m.owners = ap (λ (z : List (Option Own)). used z + 1) q ∙ used-cleared m.owners i.0 (record { 0 = k }) (h.inner_owner k i e) in
+    let a : length n.owners ≡ length m.owners = ap length q ∙ length-set m.owners i.0 None in
     record {
-      few = omega (arith, l, c.few);
-      outer_count = omega (arith, l, c.outer_count, ap length r);
-      in_use = omega (arith, a, b, c.in_use);
+      few = omega (arith, l, h.few);
+      outer_count = omega (arith, l, h.outer_count, ap length r);
+      places = omega (arith, l, a, h.places);
+      same = λ j x z. go j x (j == k) (sym (ap (λ (w : List (Option Inner)). get_or w j None) p ∙ get_or-written m.inners k None j (some_within m.inners k (some_there _ i e))) ∙ z);
     }
+  where
+    none_some : (x : Inner) → None ≡ Some x → ⊥
+    none_some x z = cc
+
+    go : (j : ℕ) (x : Inner) (b : Bool) → cond b None (inner_at m j) ≡ Some x → x.0 ≡ j
+    go j x true z = absurd (none_some x z)
+    go j x false z = h.same j x z
 
 -- what is said of an addition does not look at the room
 pub added_plain : (o : Option Var) (v : Own) (p m n : Maps) → plain p ≡ plain m → Added o v p n → Added o v m n
@@ -199,7 +233,7 @@ pub revived_plain : (v : Own) (i : Inner) (p m n : Maps) → plain p ≡ plain m
 revived_plain v i p m n e a = out (subst (λ (z : Maps). Revived v i z n) e into)
   where
     into : Revived v i (plain p) n
-    into = record { inners = a.inners; outer_numbers = a.outer_numbers; outers = a.outers; numbered = a.numbered }
+    into = record { inners = a.inners; outer_numbers = a.outer_numbers; outers = a.outers; numbered = a.numbered; if_full = a.if_full }
 
     out : Revived v i (plain m) n → Revived v i m n
-    out b = record { inners = b.inners; outer_numbers = b.outer_numbers; outers = b.outers; numbered = b.numbered }
+    out b = record { inners = b.inners; outer_numbers = b.outer_numbers; outers = b.outers; numbered = b.numbered; if_full = b.if_full }

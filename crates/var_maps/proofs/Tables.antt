@@ -1,9 +1,9 @@
 -- Tables whose entries may be absent.
-use Rattle.std.proofs.Common.{◌≡◌, ℕ, zero, suc, ◌+◌, ◌<◌, ◌≤◌, ◌==◌, Bool, true, false, cond, List, [], ◌∷◌, ◌++◌, refl, sym, ap, ◌∙◌, arith, length, get_or, set, Option, Some, None, eqb-true, eq-eqb, ne_eqb}
+use Rattle.std.proofs.Common.{◌≡◌, ℕ, zero, suc, ◌<◌, ◌≤◌, ◌==◌, Bool, true, false, cond, List, [], ◌∷◌, ◌++◌, refl, sym, ap, ◌∙◌, arith, length, get_or, set, Option, Some, None, eqb-true, eq-eqb, ne_eqb}
 use Rattle.std.proofs.lemmas.Bool.{eqb-false, false≢true}
 use Rattle.std.specs.Option.{is_some}
-use Rattle.std.specs.List.{list_all, slice_get}
-use Rattle.var_maps.specs.Numbers.{used}
+use Rattle.std.specs.List.{slice_get}
+use Rattle.std.specs.Prelude.{if◌then◌else◌, is_ok, Result, Ok}
 
 -- the test of two successors is that of the numbers
 eqb_suc : (j n : ℕ) → (suc j == suc n) ≡ (j == n)
@@ -58,44 +58,6 @@ read_some [] k r h e = absurd (omega arith)
 read_some (x ∷ xs) zero r h e = sym e
 read_some (x ∷ xs) (suc k) r h e = read_some xs k r (omega arith) e
 
--- how many are there after one more entry
-pub used-push : {X : Type 0} (xs : List (Option X)) (x : X) → used (xs ++ Some x ∷ []) ≡ used xs + 1
-used-push [] x = refl
-used-push (None ∷ xs) x = used-push xs x
-used-push (Some y ∷ xs) x = let e : used (xs ++ Some x ∷ []) ≡ used xs + 1 = used-push xs x in omega arith
-
--- after an absent entry was filled
-pub used-filled : {X : Type 0} (xs : List (Option X)) (i : ℕ) (x : X) → i < length xs → get_or xs i None ≡ None → used (set xs i (Some x)) ≡ used xs + 1
-used-filled [] i x h e = absurd (omega arith)
-used-filled (None ∷ xs) zero x h e = omega arith
-used-filled (Some y ∷ xs) zero x h e = cc
-used-filled (None ∷ xs) (suc i) x h e = used-filled xs i x (omega arith) e
-used-filled (Some y ∷ xs) (suc i) x h e = let a : used (set xs i (Some x)) ≡ used xs + 1 = used-filled xs i x (omega arith) e in omega arith
-
--- after an entry was taken out
-pub used-cleared : {X : Type 0} (xs : List (Option X)) (i : ℕ) (x : X) → get_or xs i None ≡ Some x → used (set xs i None) + 1 ≡ used xs
-used-cleared [] i x e = cc
-used-cleared (None ∷ xs) zero x e = cc
-used-cleared (Some y ∷ xs) zero x e = omega arith
-used-cleared (None ∷ xs) (suc i) x e = used-cleared xs i x e
-used-cleared (Some y ∷ xs) (suc i) x e = let a : used (set xs i None) + 1 ≡ used xs = used-cleared xs i x e in omega arith
-
--- at most all are there
-pub used_le : {X : Type 0} (xs : List (Option X)) → used xs ≤ length xs
-used_le [] = omega arith
-used_le (None ∷ xs) = let h : used xs ≤ length xs = used_le xs in omega arith
-used_le (Some x ∷ xs) = let h : used xs ≤ length xs = used_le xs in omega arith
-
--- fewer, where one is absent
-pub used_lt : {X : Type 0} (xs : List (Option X)) (k : ℕ) → k < length xs → get_or xs k None ≡ None → used xs < length xs
-used_lt [] k h e = absurd (omega arith)
-used_lt (None ∷ xs) zero h e = let a : used xs ≤ length xs = used_le xs in omega arith
-used_lt (Some x ∷ xs) zero h e = cc
-used_lt (None ∷ xs) (suc k) h e = let a : used xs ≤ length xs = used_le xs in omega arith
-used_lt (Some x ∷ xs) (suc k) h e = let a : used xs < length xs = used_lt xs k (omega arith) e in omega arith
-
--- all, where none is absent
-pub used_full : {X : Type 0} (xs : List (Option X)) → used xs ≡ length xs → list_all is_some xs ≡ true
-used_full [] e = refl
-used_full (None ∷ xs) e = absurd (let a : used xs ≤ length xs = used_le xs in omega arith)
-used_full (Some x ∷ xs) e = used_full xs (omega arith)
+-- a list after a push that was answered by Ok
+pub pushed : {X E : Type 0} (r : Result (Unit {0}) E) (u : Unit {0}) (xs ys zs : List X) → zs ≡ (if is_ok r then ys else xs) → r ≡ Ok u → zs ≡ ys
+pushed r u xs ys zs e h = e ∙ ap (λ q. if is_ok q then ys else xs) h

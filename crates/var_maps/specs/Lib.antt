@@ -1,4 +1,2 @@
-pub mod Numbers
-pub mod KeptNumbers
 pub mod Maps
 pub mod Kept

@@ -43,13 +43,12 @@ pub record Matched (m : Maps) : Type 0 where
   pub lengths : length m.outer_numbers ≡ length m.inners
   pub inner_len : length m.owners ≤ length m.inners
 
--- the variable has an inner number that was free, and a new one only where none was
+-- the variable has an inner number that was free
 pub record HasFree (v : Own) (i : Inner) (owners after : List (Option Own)) : Type 0 where
   pub free : slice_index_or owners i.0 None ≡ None
   pub given : (j : ℕ) → slice_index_or after j None ≡ cond (j == i.0) (Some v) (slice_index_or owners j None)
   pub longer : length owners ≤ length after
   pub by_one : length after ≤ length owners + 1
-  pub if_full : length owners < length after → list_all is_some owners ≡ true
 
 -- the variable is the next one, with this outer number, and is active
 pub record Added (outer : Option Var) (v : Own) (m n : Maps) : Type 0 where
@@ -68,9 +67,10 @@ number_or d (Some i) = i.0
 abbrev pub retired : ℕ → Maps → Maps
 retired k m = record m { inners = slice_set m.inners k None; owners = slice_set m.owners (number_or 0 (inner_at m k)) None }
 
--- the variable is active again, with this number
+-- the variable is active again, with this number, which is a new one only where none was free
 pub record Revived (v : Own) (i : Inner) (m n : Maps) : Type 0 where
   pub inners : n.inners ≡ slice_set m.inners v.0 (Some i)
   pub outer_numbers : n.outer_numbers ≡ m.outer_numbers
   pub outers : n.outers ≡ m.outers
   pub numbered : HasFree v i m.owners n.owners
+  pub if_full : length m.owners < length n.owners → list_all is_some m.owners ≡ true

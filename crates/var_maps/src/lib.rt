@@ -3,10 +3,9 @@
 //! A solver numbers its variables in the order in which it makes them. An outer variable stands for
 //! a variable of the caller, a private one for none. The clauses that the solver holds now speak of
 //! active variables alone, by inner numbers. A variable that is retired gives its inner number
-//! back, and the number is given again before a new one is.
+//! back.
 #![tactic(auto)]
 
 mod maps;
-mod numbers;
 
 pub use maps::VarMaps;

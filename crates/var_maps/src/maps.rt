@@ -1,7 +1,6 @@
 ghost use Rattle.std.specs.Prelude.{◌≡◌, ◌+◌, ◌<◌, ◌≤◌, ◌^◌, ◌∷◌, ◌++◌, [], Some, None, true, length, slice_get, IsSome, IsOk, IfOk, OnOk, OnErr};
 ghost use Rattle.var_maps.specs.Maps.{Maps, Matched, Added, Revived, retired, plain, no_maps, inner_at, outer_at, owner_at};
 
-use crate::numbers::InnerNumbers;
 use sat_lits::{Inner, NoMemory, Own, Var};
 use std::alloc::Global;
 use std::marker::Model;
@@ -11,8 +10,8 @@ use std::marker::Model;
 pub struct VarMaps {
     inners: Vec<Option<Inner>>,
     outer_numbers: Vec<Option<Var>>,
+    owners: Vec<Option<Own>>,
     outers: Vec<Own>,
-    numbers: InnerNumbers,
 }
 
 impl Model for VarMaps {
@@ -35,8 +34,8 @@ impl VarMaps {
         VarMaps {
             inners: Vec::new(alloc),
             outer_numbers: Vec::new(alloc),
+            owners: Vec::new(alloc),
             outers: Vec::new(alloc),
-            numbers: InnerNumbers::new(alloc),
         }
     }
 
@@ -50,8 +49,8 @@ impl VarMaps {
     {
         self.inners.reserve(more as usize)?;
         self.outer_numbers.reserve(more as usize)?;
+        self.owners.reserve(more as usize)?;
         self.outers.reserve(more as usize)?;
-        self.numbers.reserve(more)?;
         Ok(())
     }
 
@@ -68,8 +67,8 @@ impl VarMaps {
         self.reserve(1)?;
         let own = Own(self.inners.len() as u32);
         let outer = Var(self.outers.len() as u32);
-        let inner = self.numbers.take(own);
-        self.inners.push(Some(inner)).unwrap();
+        self.inners.push(Some(Inner(own.0))).unwrap();
+        self.owners.push(Some(own)).unwrap();
         self.outer_numbers.push(Some(outer)).unwrap();
         self.outers.push(own).unwrap();
         Ok(own)
@@ -87,8 +86,8 @@ impl VarMaps {
     {
         self.reserve(1)?;
         let own = Own(self.inners.len() as u32);
-        let inner = self.numbers.take(own);
-        self.inners.push(Some(inner)).unwrap();
+        self.inners.push(Some(Inner(own.0))).unwrap();
+        self.owners.push(Some(own)).unwrap();
         self.outer_numbers.push(None).unwrap();
         Ok(own)
     }
@@ -125,7 +124,7 @@ impl VarMaps {
         ensures value { result ≡ owner_at self.now inner.0 }
         ensures matched { Matched self.now }
     {
-        self.numbers.owner(inner)
+        self.owners.get(inner.0 as usize).copied().flatten()
     }
 
     /// Makes an active variable one that is not, and frees its inner number.
@@ -137,7 +136,7 @@ impl VarMaps {
         let at = own.0 as usize;
         let inner = self.inners[at].unwrap();
         self.inners[at] = None;
-        self.numbers.give_back(inner);
+        self.owners[inner.0 as usize] = None;
     }
 
     /// Makes a variable active again, with a free inner number. The only error is want of memory,
@@ -150,9 +149,9 @@ impl VarMaps {
         ensures spare { self.old.spare ≤ self.new.spare + 1 }
         ensures succeeds { 1 ≤ self.old.spare → IsOk result }
     {
-        self.reserve(1)?;
-        let inner = self.numbers.take(own);
+        let inner = Inner(own.0);
         self.inners[own.0 as usize] = Some(inner);
+        self.owners[inner.0 as usize] = Some(own);
         Ok(inner)
     }
 
@@ -177,7 +176,7 @@ impl VarMaps {
         ensures value { result ≡ length self.now.owners }
         ensures matched { Matched self.now }
     {
-        self.numbers.len() as u32
+        self.owners.len() as u32
     }
 }
 
@@ -241,6 +240,19 @@ mod tests {
         assert_eq!(rt; inner_of(&rt, &maps, Own(0)), Some(Inner(0)));
         assert_eq!(rt; maps.at_inner(Inner(0)), Some(Own(0)));
         assert_eq!(rt; maps.inner_len(), 3);
+        Ok(())
+    }
+
+    #[test]
+    fn a_variable_added_after_a_retirement_has_its_own_number(rt: HostRuntime) -> Result<(), Fail> {
+        let mut maps = VarMaps::new(rt.alloc());
+        add_three(&rt, &mut maps)?;
+        retire(&rt, &mut maps, Own(1));
+        assert!(rt; maps.own_len() == 3);
+        let added = maps.add_outer()?;
+        assert_eq!(rt; added, Own(3));
+        assert_eq!(rt; inner_of(&rt, &maps, added), Some(Inner(3)));
+        assert_eq!(rt; maps.at_inner(Inner(1)), None);
         Ok(())
     }
 

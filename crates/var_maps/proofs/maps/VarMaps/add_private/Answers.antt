@@ -3,36 +3,39 @@ use Rattle.sat_lits.specs.declared.literal.Own.{Own}
 use Rattle.sat_lits.specs.declared.literal.Inner.{Inner}
 use Rattle.var_maps.specs.Maps.{Maps, plain}
 use Rattle.var_maps.specs.Kept.{maps_of}
-use Rattle.var_maps.proofs.FreeNumbers.{pushed}
-use Rattle.var_maps.proofs.Matching.{taken_free, private_added, added_matched, added_counted, added_plain}
+use Rattle.var_maps.proofs.Tables.{pushed}
+use Rattle.var_maps.proofs.Matching.{added_free, private_added, added_matched, added_numbered, added_plain}
 use Rattle.var_maps.proofs.maps.VarMaps.add_private.Goals as goal
 
 pub invariant_of-self : goal.invariant_of-self
 invariant_of-self c =
     let m : Maps = maps_of c.self.inside in
-    let n : Maps = maps_of (record { inners = c.push.new.self; outer_numbers = c.push-2.new.self; outers = c.self.inside.outers; numbers = c.take-inner.new.self }) in
+    let n : Maps = maps_of (record { inners = c.push.new.self; outer_numbers = c.push-3.new.self; owners = c.push-2.new.self; outers = c.self.inside.outers }) in
     let v : Own = record { 0 = c.len.result } in
-    let i : Inner = c.take-inner.result in
+    let i : Inner = record { 0 = c.len.result } in
     let few : length m.inners < 2 ^ 31 = subst (λ (z : Maps). length z.inners < 2 ^ 31) (sym (ap plain c.self.view_is ∙ c.in_ok-reserve.ensures.same)) c.requires in
     let e : v.0 ≡ length m.inners = c.len.ensures ∙ c.self.inside.inners.ok.0 in
     let p : n.inners ≡ m.inners ++ Some i ∷ [] = pushed c.push.result c.unwrap.result m.inners (m.inners ++ Some i ∷ []) n.inners c.push.ensures.items c.unwrap.ensures in
-    let q : n.outer_numbers ≡ m.outer_numbers ++ None ∷ [] = pushed c.push-2.result c.unwrap-2.result m.outer_numbers (m.outer_numbers ++ None ∷ []) n.outer_numbers c.push-2.ensures.items c.unwrap-2.ensures in
+    let q : n.outer_numbers ≡ m.outer_numbers ++ None ∷ [] = pushed c.push-3.result c.unwrap-3.result m.outer_numbers (m.outer_numbers ++ None ∷ []) n.outer_numbers c.push-3.ensures.items c.unwrap-3.ensures in
+    let w : n.owners ≡ m.owners ++ Some v ∷ [] = pushed c.push-2.result c.unwrap-2.result m.owners (m.owners ++ Some v ∷ []) n.owners c.push-2.ensures.items c.unwrap-2.ensures in
     record {
-      matched = added_matched m n v i None c.self.invariant.matched (taken_free v i c.self.inside.numbers c.take-inner.new.self c.take-inner.ensures) e p q (private_added m n c.self.invariant.matched q refl);
-      counted = added_counted m n i c.self.invariant.counted few c.take-inner.ensures.used_more p (omega arith);
+      matched = added_matched m n v i None c.self.invariant.matched (added_free m n v c.self.invariant.numbered e w) e p q (private_added m n c.self.invariant.matched q refl);
+      numbered = added_numbered m n v c.self.invariant.numbered few e p w (omega arith);
     }
 
 pub returns-clause-ok : goal.returns-clause-ok
 returns-clause-ok c =
     let m : Maps = maps_of c.self.inside in
-    let n : Maps = maps_of (record { inners = c.push.new.self; outer_numbers = c.push-2.new.self; outers = c.self.inside.outers; numbers = c.take-inner.new.self }) in
+    let n : Maps = maps_of (record { inners = c.push.new.self; outer_numbers = c.push-3.new.self; owners = c.push-2.new.self; outers = c.self.inside.outers }) in
     let v : Own = record { 0 = c.len.result } in
-    let i : Inner = c.take-inner.result in
+    let i : Inner = record { 0 = c.len.result } in
+    let w : n.owners ≡ m.owners ++ Some v ∷ [] = pushed c.push-2.result c.unwrap-2.result m.owners (m.owners ++ Some v ∷ []) n.owners c.push-2.ensures.items c.unwrap-2.ensures in
+    let e : v.0 ≡ length m.inners = c.len.ensures ∙ c.self.inside.inners.ok.0 in
     added_plain None v m c.args.self.now n (ap plain c.self.view_is ∙ c.in_ok-reserve.ensures.same)
     (record {
-      number = c.len.ensures ∙ c.self.inside.inners.ok.0;
+      number = e;
       inner = i;
       inners = pushed c.push.result c.unwrap.result m.inners (m.inners ++ Some i ∷ []) n.inners c.push.ensures.items c.unwrap.ensures;
-      outer_numbers = pushed c.push-2.result c.unwrap-2.result m.outer_numbers (m.outer_numbers ++ None ∷ []) n.outer_numbers c.push-2.ensures.items c.unwrap-2.ensures;
-      numbered = taken_free v i c.self.inside.numbers c.take-inner.new.self c.take-inner.ensures;
+      outer_numbers = pushed c.push-3.result c.unwrap-3.result m.outer_numbers (m.outer_numbers ++ None ∷ []) n.outer_numbers c.push-3.ensures.items c.unwrap-3.ensures;
+      numbered = added_free m n v c.self.invariant.numbered e w;
     })
