@@ -129,7 +129,7 @@ root_gone (e ∷ newer) l v cs h = go (names l.var.0 e) refl (root_gone newer l 
     go true n r q = here n (some_entry e (Gone v cs) q)
     go false n r q = root_skip e newer l n ∙ r q
 
--- each variable is active or named by an entry, and not twice
+-- no variable is named twice, and no active one is named
 abbrev pub AreOnce : (ℕ → Bool) → List Entry → Type 0
 AreOnce active s = (k : ℕ) → times_named k s + cond {A = ℕ} (active k) 1 0 ≤ 1
 

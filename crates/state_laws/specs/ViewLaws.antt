@@ -11,6 +11,7 @@ use Rattle.sat_lits.specs.InLits.{is_distinct, same_lit as same_in_lit}
 use Rattle.sat_lits.specs.declared.literal.Own.{Own}
 use Rattle.sat_lits.specs.declared.literal.OwnLit.{OwnLit}
 use Rattle.sat_lits.specs.declared.literal.Inner.{Inner}
+use Rattle.sat_lits.specs.declared.literal.Var.{Var}
 use Rattle.sat_lits.specs.declared.literal.InLit.{InLit}
 use Rattle.sat_lits.specs.declared.formula.Item.{Item}
 use Rattle.sat_lits.specs.declared.shared.Shared.{Shared}
@@ -22,6 +23,8 @@ use Rattle.rebuild_stack.specs.declared.entry.Root.{Root}
 use Rattle.clause_store.specs.Store.{Store, Held, IsKept, hard_of, learned_of}
 use Rattle.var_maps.specs.Maps.{Maps, Matched, inner_at, owner_at, retired, number_or}
 use Rattle.state_laws.specs.declared.definition.Definition.{Definition}
+use Rattle.state_laws.specs.State.{State, outers_from}
+use Rattle.state_laws.specs.Stands.{Stands}
 use Rattle.state_laws.specs.Resolution.{mentions}
 use Rattle.state_laws.specs.Held.{own_or, own_of, own_clause, own_clauses, InClause, OwnClause, strip, in_own, hard_clause, relisted, put_each, touches, is_among, without_ids, ExtendsBy}
 use Rattle.state_laws.specs.Kernel.{Kernel, state_of, Standing}
@@ -252,3 +255,12 @@ stored_lits_owned k h =
     all_mono (λ (x : Held). list_all (λ (l : OwnLit). get_or (map is_some k.maps.inners) l.var.0 false) (own_clause k.maps x.lits)) (λ (x : Held). list_all (λ (l : InLit). is_some (owner_at k.maps l.var.0)) x.lits)
     (λ x a. owned_lits k.maps x.lits a) k.store.held
     (both_lists k.maps (list_all (λ (l : OwnLit). get_or (map is_some k.maps.inners) l.var.0 false)) k.store.held h.stands.places.placed.hard h.stands.places.placed.learned)
+
+-- a kernel that is seen as the same state, with the same outer variables in its maps, stands too
+pub same_state-Standing : (k n : Kernel) → state_of n ≡ state_of k → n.maps.outers ≡ k.maps.outers → n.maps.outer_numbers ≡ k.maps.outer_numbers → Standing k → Standing n
+same_state-Standing k n e o p h =
+    record {
+      stands = subst (λ (s : State). Stands s) (sym e) h.stands;
+      outers = ap (map (λ (v : Own). v.0)) o ∙ (h.outers ∙ ap (λ (s : State). outers_from 0 s.definitions) (sym e));
+      private = ap (λ (s : State). map is_some s.definitions) e ∙ (h.private ∙ sym (ap (map (λ (x : Option Var). not (is_some x))) p));
+    }

@@ -2,22 +2,25 @@
 
 ghost use Rattle.std.specs.Prelude.{◌≡◌, ◌<◌, ℕ, Bool, true, not, List, Some, None};
 ghost use Rattle.std.specs.declared.option.Option.{Option};
-ghost use Rattle.sat_lits.specs.Truth.{signed};
+ghost use Rattle.std.specs.List.{list_all};
+ghost use Rattle.sat_lits.specs.Truth.{signed, clauses_value};
 ghost use Rattle.sat_lits.specs.declared.literal.Lit.{Lit};
 ghost use Rattle.sat_lits.specs.declared.literal.Own.{Own};
 ghost use Rattle.sat_lits.specs.declared.literal.OwnLit.{OwnLit};
 ghost use Rattle.sat_lits.specs.declared.formula.Item.{Item};
 ghost use Rattle.sat_lits.specs.declared.shared.Shared.{Shared};
+ghost use Rattle.rebuild_stack.specs.Values.{own_value, each_lit};
 ghost use Rattle.rebuild_stack.specs.Entries.{ordered};
 ghost use Rattle.rebuild_stack.specs.Roots.{turned, root};
+ghost use Rattle.rebuild_stack.specs.PutIn.{is_clean};
 ghost use Rattle.rebuild_stack.specs.declared.entry.Entry.{Entry};
 ghost use Rattle.rebuild_stack.specs.declared.entry.Entry.TheVariants.{Fix, Equal, Gone};
 ghost use Rattle.rebuild_stack.specs.declared.entry.Root.TheVariants.{Known, Last, Lost};
 ghost use Rattle.state_laws.specs.declared.definition.Definition.{Definition};
 ghost use Rattle.state_laws.specs.State.{State, no_state, is_active};
 ghost use Rattle.state_laws.specs.Stands.{Stands};
-ghost use Rattle.state_laws.specs.Moves.{put_into, eliminated, restored, taken, imported, taking, extended, grown, learning, refuted};
-ghost use Rattle.state_laws.specs.Conditions.{Pushable, EntryFollows, Restorable, Takable, StandsFor, Defines, Learnable, IsContradicted};
+ghost use Rattle.state_laws.specs.Moves.{put_into, eliminated, restored, taken, imported, taking, extended, grown, learning, with_hard, with_learned, refuted};
+ghost use Rattle.state_laws.specs.Conditions.{Satisfies, Pushable, EntryFollows, Restorable, Takable, StandsFor, Defines, Learnable, IsContradicted};
 ghost use Rattle.state_laws.specs.Theorems.{WidenedConfirm, RebuiltIsModel, RefutedHasNoModel};
 ghost use Rattle.state_laws.specs.RootTableLaws.{entry_of, depth, AreOnce};
 
@@ -87,6 +90,16 @@ pub fn a_state_stands_after_it_grows()
 /// A state stands after a clause is learned that follows from its clauses.
 pub fn a_state_stands_after_a_clause_is_learned()
     ensures { (c : List OwnLit) (s : State) → Learnable s c → Stands s → Stands (learning c s) }
+{}
+
+/// A state stands with other learned clauses that follow, as after some are dropped.
+pub fn a_state_stands_with_other_learned_clauses()
+    ensures { (clauses : List (List OwnLit)) (s : State) → ((w : ℕ → Bool) → Satisfies s w → clauses_value (own_value w) clauses ≡ true) → each_lit (λ l. is_active s l.var.0) clauses ≡ true → list_all is_clean clauses ≡ true → Stands s → Stands (with_learned clauses s) }
+{}
+
+/// A state stands with other hard clauses that say the same, as after an implied one is dropped.
+pub fn a_state_stands_with_other_hard_clauses()
+    ensures { (clauses : List (List OwnLit)) (s : State) → ((w : ℕ → Bool) → clauses_value (own_value w) clauses ≡ clauses_value (own_value w) s.hard) → each_lit (λ l. is_active s l.var.0) clauses ≡ true → list_all is_clean clauses ≡ true → Stands s → Stands (with_hard clauses s) }
 {}
 
 /// A state stands after it is refuted, where its clauses have no solution.

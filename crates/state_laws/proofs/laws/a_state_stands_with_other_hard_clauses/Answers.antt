@@ -1,0 +1,5 @@
+use Rattle.state_laws.specs.LearnLaws.{with_hard-Stands}
+use Rattle.state_laws.proofs.laws.a_state_stands_with_other_hard_clauses.Goals as goal
+
+pub returns : goal.returns
+returns c = with_hard-Stands
