@@ -49,7 +49,8 @@ pub fn a_new_state_stands()
 
 /// A state stands after an active variable is fixed or replaced as follows from its clauses.
 pub fn a_state_stands_after_an_entry_is_put_into_it()
-    ensures { (e : Entry) (s : State) → Pushable s e → EntryFollows s e → Stands s → Stands (put_into e s) }
+    ensures { (e : Entry) (s : State)
+        → Pushable s e → EntryFollows s e → Stands s → Stands (put_into e s) }
 {}
 
 /// A state stands after an active variable is eliminated.
@@ -59,7 +60,8 @@ pub fn a_state_stands_after_an_elimination()
 
 /// A state stands after an eliminated variable is restored, wherever its entry stands.
 pub fn a_state_stands_after_a_restoration()
-    ensures { (at : ℕ) (v : Own) (clauses : List (List OwnLit)) (s : State) → Restorable s at v clauses → Stands s → Stands (restored at v clauses s) }
+    ensures { (at : ℕ) (v : Own) (clauses : List (List OwnLit)) (s : State)
+        → Restorable s at v clauses → Stands s → Stands (restored at v clauses s) }
 {}
 
 /// A state stands after a clause is taken as an item.
@@ -74,12 +76,14 @@ pub fn a_state_stands_after_an_entry_is_imported()
 
 /// A state stands after an item is taken with clauses that stand for it.
 pub fn a_state_stands_after_an_item_is_taken()
-    ensures { (item : Item) (clauses : List (List OwnLit)) (s : State) → StandsFor s item clauses → Stands s → Stands (taking item clauses s) }
+    ensures { (item : Item) (clauses : List (List OwnLit)) (s : State)
+        → StandsFor s item clauses → Stands s → Stands (taking item clauses s) }
 {}
 
 /// A state stands after an own variable is made, with clauses that hold where it is as defined.
 pub fn a_state_stands_after_a_variable_is_defined()
-    ensures { (d : Option Definition) (clauses : List (List OwnLit)) (s : State) → Defines s d clauses → Stands s → Stands (extended d clauses s) }
+    ensures { (d : Option Definition) (clauses : List (List OwnLit)) (s : State)
+        → Defines s d clauses → Stands s → Stands (extended d clauses s) }
 {}
 
 /// A state stands after outer variables are made.
@@ -94,12 +98,18 @@ pub fn a_state_stands_after_a_clause_is_learned()
 
 /// A state stands with other learned clauses that follow, as after some are dropped.
 pub fn a_state_stands_with_other_learned_clauses()
-    ensures { (clauses : List (List OwnLit)) (s : State) → ((w : ℕ → Bool) → Satisfies s w → clauses_value (own_value w) clauses ≡ true) → each_lit (λ l. is_active s l.var.0) clauses ≡ true → list_all is_clean clauses ≡ true → Stands s → Stands (with_learned clauses s) }
+    ensures { (clauses : List (List OwnLit)) (s : State)
+        → ((w : ℕ → Bool) → Satisfies s w → clauses_value (own_value w) clauses ≡ true)
+        → each_lit (λ l. is_active s l.var.0) clauses ≡ true → list_all is_clean clauses ≡ true
+        → Stands s → Stands (with_learned clauses s) }
 {}
 
 /// A state stands with other hard clauses that say the same, as after an implied one is dropped.
 pub fn a_state_stands_with_other_hard_clauses()
-    ensures { (clauses : List (List OwnLit)) (s : State) → ((w : ℕ → Bool) → clauses_value (own_value w) clauses ≡ clauses_value (own_value w) s.hard) → each_lit (λ l. is_active s l.var.0) clauses ≡ true → list_all is_clean clauses ≡ true → Stands s → Stands (with_hard clauses s) }
+    ensures { (clauses : List (List OwnLit)) (s : State)
+        → ((w : ℕ → Bool) → clauses_value (own_value w) clauses ≡ clauses_value (own_value w) s.hard)
+        → each_lit (λ l. is_active s l.var.0) clauses ≡ true → list_all is_clean clauses ≡ true
+        → Stands s → Stands (with_hard clauses s) }
 {}
 
 /// A state stands after it is refuted, where its clauses have no solution.
@@ -114,17 +124,24 @@ pub fn a_literal_without_an_entry_is_left()
 
 /// A literal whose variable is fixed is known.
 pub fn a_fixed_literal_is_known()
-    ensures { (s : List Entry) (l k : OwnLit) → entry_of l.var.0 s ≡ Some (Fix k) → root s l ≡ Known (signed l.negative (not k.negative)) }
+    ensures { (s : List Entry) (l k : OwnLit)
+        → entry_of l.var.0 s ≡ Some (Fix k)
+        → root s l ≡ Known (signed l.negative (not k.negative)) }
 {}
 
 /// A literal whose variable was taken out is lost.
 pub fn an_eliminated_literal_is_lost()
-    ensures { (s : List Entry) (l : OwnLit) (v : Own) (clauses : List (List OwnLit)) → entry_of l.var.0 s ≡ Some (Gone v clauses) → root s l ≡ Lost v }
+    ensures { (s : List Entry) (l : OwnLit) (v : Own) (clauses : List (List OwnLit))
+        → entry_of l.var.0 s ≡ Some (Gone v clauses) → root s l ≡ Lost v }
 {}
 
 /// A literal whose variable is replaced comes to what the other literal comes to, whose entry, if
 /// it has one, is newer.
 pub fn a_replaced_literal_goes_on_as_the_other()
-    ensures comes_to { (active : ℕ → Bool) (s : List Entry) (l : OwnLit) (v : Own) (k : OwnLit) → AreOnce active s → ordered active s ≡ true → entry_of l.var.0 s ≡ Some (Equal v k) → root s l ≡ root s (turned l.negative k) }
-    ensures is_newer { (active : ℕ → Bool) (s : List Entry) (n : ℕ) (v : Own) (k : OwnLit) → AreOnce active s → ordered active s ≡ true → entry_of n s ≡ Some (Equal v k) → depth k.var.0 s < depth n s }
+    ensures comes_to { (active : ℕ → Bool) (s : List Entry) (l : OwnLit) (v : Own) (k : OwnLit)
+        → AreOnce active s → ordered active s ≡ true → entry_of l.var.0 s ≡ Some (Equal v k)
+        → root s l ≡ root s (turned l.negative k) }
+    ensures is_newer { (active : ℕ → Bool) (s : List Entry) (n : ℕ) (v : Own) (k : OwnLit)
+        → AreOnce active s → ordered active s ≡ true → entry_of n s ≡ Some (Equal v k)
+        → depth k.var.0 s < depth n s }
 {}
