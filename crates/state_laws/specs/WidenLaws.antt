@@ -16,7 +16,7 @@ use Rattle.rebuild_stack.specs.CommonLaws.{beq_same}
 use Rattle.rebuild_stack.specs.declared.entry.Entry.TheVariants.{Fix, Equal, Gone}
 use Rattle.state_laws.specs.declared.definition.Definition.{Definition}
 use Rattle.state_laws.specs.declared.definition.Definition.TheVariants.{Xor, And}
-use Rattle.state_laws.specs.State.{State, exclusive_or, defined_value, are_as_defined, outers_from, outer_part, satisfies_entries, is_over_earlier, are_over_earlier, widen_from, widen}
+use Rattle.state_laws.specs.State.{State, exclusive_or, defined_value, are_as_defined, outers_from, outer_count, outer_part, satisfies_entries, is_over_earlier, are_over_earlier, widen_from, widen}
 use Rattle.state_laws.specs.Stands.{Accords, IsInRange}
 use Rattle.state_laws.specs.Theorems.{Fits, WidenedConfirm, RebuiltIsModel, RefutedHasNoModel}
 
@@ -88,12 +88,20 @@ widen_outer own outer (Some d ∷ ds) h =
     subst (λ n. map (values_of (widen_from (own ++ x ∷ []) outer ds)) (outers_from n ds) ≡ outer) (one_more own x)
     (widen_outer (own ++ x ∷ []) outer ds (subst (λ n. length outer ≡ length (outers_from n ds)) (sym (one_more own x)) h))
 
+-- the outer part of a widened assignment is the assignment
+pub widened_outer : (values : List Bool) (ds : List (Option Definition)) → length values ≡ outer_count ds → outer_part ds (values_of (widen values ds)) ≡ values
+widened_outer values ds h = widen_outer [] values ds h
+
+-- and its private variables are as defined
+pub widened_defined : (values : List Bool) (ds : List (Option Definition)) → are_over_earlier 0 ds ≡ true → are_as_defined (values_of (widen values ds)) 0 ds ≡ true
+widened_defined values ds h = widen_defined [] values ds h
+
 -- an outer assignment that fits agrees, widened, with what the state took
 pub widened-Accords : (s : State) (values : List Bool) → IsInRange s → Fits s values → Accords s (values_of (widen values s.definitions))
 widened-Accords s values r f =
-    let o : outer_part s.definitions (values_of (widen values s.definitions)) ≡ values = widen_outer [] values s.definitions f.model.whole in
+    let o : outer_part s.definitions (values_of (widen values s.definitions)) ≡ values = widened_outer values s.definitions f.model.whole in
     record {
-      defined = widen_defined [] values s.definitions r.definitions;
+      defined = widened_defined values s.definitions r.definitions;
       items = subst (λ (z : List Bool). list_all (satisfies z) s.items ≡ true) (sym o) f.model.holds;
       entries = subst (λ (z : List Bool). satisfies_entries z s.entries ≡ true) (sym o) f.entries;
     }

@@ -1,6 +1,6 @@
 //! Laws on the definitions of this crate. Each is the contract of a function that does nothing.
 
-ghost use Rattle.std.specs.Prelude.{◌≡◌, ◌<◌, ℕ, Bool, true, not, List, Some, None};
+ghost use Rattle.std.specs.Prelude.{◌≡◌, ◌<◌, ℕ, Bool, true, not, List, Some, None, length};
 ghost use Rattle.std.specs.declared.option.Option.{Option};
 ghost use Rattle.std.specs.List.{list_all};
 ghost use Rattle.sat_lits.specs.Truth.{signed, clauses_value};
@@ -9,7 +9,7 @@ ghost use Rattle.sat_lits.specs.declared.literal.Own.{Own};
 ghost use Rattle.sat_lits.specs.declared.literal.OwnLit.{OwnLit};
 ghost use Rattle.sat_lits.specs.declared.formula.Item.{Item};
 ghost use Rattle.sat_lits.specs.declared.shared.Shared.{Shared};
-ghost use Rattle.rebuild_stack.specs.Values.{own_value, each_lit};
+ghost use Rattle.rebuild_stack.specs.Values.{values_of, own_value, each_lit};
 ghost use Rattle.rebuild_stack.specs.Entries.{ordered};
 ghost use Rattle.rebuild_stack.specs.Roots.{turned, root};
 ghost use Rattle.rebuild_stack.specs.PutIn.{is_clean};
@@ -17,12 +17,23 @@ ghost use Rattle.rebuild_stack.specs.declared.entry.Entry.{Entry};
 ghost use Rattle.rebuild_stack.specs.declared.entry.Entry.TheVariants.{Fix, Equal, Gone};
 ghost use Rattle.rebuild_stack.specs.declared.entry.Root.TheVariants.{Known, Last, Lost};
 ghost use Rattle.state_laws.specs.declared.definition.Definition.{Definition};
-ghost use Rattle.state_laws.specs.State.{State, no_state, is_active};
+ghost use Rattle.state_laws.specs.State.{State, no_state, is_active, outer_count, outer_part, are_as_defined, are_over_earlier, widen};
 ghost use Rattle.state_laws.specs.Stands.{Stands};
 ghost use Rattle.state_laws.specs.Moves.{put_into, eliminated, restored, taken, imported, taking, extended, grown, learning, with_hard, with_learned, refuted};
 ghost use Rattle.state_laws.specs.Conditions.{Satisfies, Pushable, EntryFollows, Restorable, Takable, StandsFor, Defines, Learnable, IsContradicted};
 ghost use Rattle.state_laws.specs.Theorems.{WidenedConfirm, RebuiltIsModel, RefutedHasNoModel};
 ghost use Rattle.state_laws.specs.RootTableLaws.{entry_of, depth, AreOnce};
+
+/// A widened assignment gives the outer variables their values, and each private variable the
+/// value of its definition.
+pub fn assignments_are_widened_by_the_definitions()
+    ensures outer { (values : List Bool) (definitions : List (Option Definition))
+        → length values ≡ outer_count definitions
+        → outer_part definitions (values_of (widen values definitions)) ≡ values }
+    ensures defined { (values : List Bool) (definitions : List (Option Definition))
+        → are_over_earlier 0 definitions ≡ true
+        → are_as_defined (values_of (widen values definitions)) 0 definitions ≡ true }
+{}
 
 /// Each outer assignment that is a model of the items taken, and satisfies the shared entries
 /// taken, makes all true that a standing state holds, when it is widened to the private variables.
