@@ -1,0 +1,441 @@
+-- The steps on the outcome, and what is known at the end.
+use Rattle.std.proofs.Common.{◌≡◌, ◌≢◌, ◌⊎◌, ℕ, zero, suc, ◌+◌, ◌<◌, ◌≤◌, eqb, Bool, true, false, true≢false, List, [], ◌∷◌, ◌++◌, length, get_or, set, Some, None, Option, refl, sym, ap, ◌∙◌, subst, ⊎_elim, inl, inr, arith, length-set, get_or-set_other, get_or-set_same, IfSome, IfNone, IsSome, rules}
+use mathlib.Core.Logic.{dite}
+use mathlib.Core.Option.{some, none, some-injective}
+use mathlib.Core.Option as maybe
+use native.Mathlib.Decide.{ℕ_discrete}
+use lib.ListN.{get_elem?}
+use prog.Atomic.{either}
+use Rattle.atomic_table.specs.Table.{State, Me, Act, step, keeps, takes, gives, stepped, Valid, carried_after, Allows, Final, Seen, rest}
+use Rattle.atomic_table.proofs.Lists.{set_here, set_else, exchanged}
+use Rattle.share_turn.specs.declared.held.Held.{Held}
+use Rattle.share_turn.specs.declared.held.Held.TheVariants.{Stored, Said}
+use Rattle.share_turn.specs.declared.held.Outcome.{Outcome}
+use Rattle.share_turn.specs.declared.held.Outcome.TheVariants.{Verdict, Halted}
+use Rattle.share_turn.specs.declared.view.View.{View}
+use Rattle.share_turn.specs.declared.view.Question.{Question}
+use Rattle.share_turn.specs.declared.view.Phase.{Phase}
+use Rattle.share_turn.specs.declared.view.Phase.TheVariants.{Free}
+use Rattle.share_turn.specs.declared.view.Claim.{Claim}
+use Rattle.share_turn.specs.declared.view.Claim.TheVariants.{Quiet, Claimed, Lifted, Put}
+use Rattle.sat_lits.specs.Verdicts.{IsRight}
+use Rattle.sat_lits.specs.declared.shared.Shared.{Shared}
+use Rattle.share_store.specs.Log.{StartsWith}
+use Rattle.share_turn.specs.Views.{IsLegalFor, IsRightOutcome, at_claim, came_late, alarm_after, with_outcome, has_posted, saw_none, saw_end, MayPost}
+use Rattle.share_turn.specs.Board.{Slot, Board, Fits, HasBoard, Stage, quiet, claimed, raised, put, posted, rank, stage_word, claim_at, outcome_home, RightAt, turn_word, store_home, live}
+use Rattle.share_turn.specs.Steps.{Mine, asked, held_up, laid, shown, looked}
+use Rattle.share_turn.proofs.Fronts.{each_set, inside, live_same, live_one, live_two, there, index_of}
+use Rattle.share_turn.proofs.Keeps.{St, K, stays, first_is}
+
+pub stage_free : (t : Stage) → stage_word t ≡ 0 → t ≡ quiet
+stage_free quiet e = refl
+stage_free claimed e = absurd (omega arith)
+stage_free raised e = absurd (omega arith)
+stage_free (put o) e = absurd (omega arith)
+stage_free (posted o) e = absurd (omega arith)
+
+stage_taken : (t : Stage) → stage_word t ≢ 0 → 0 < rank t
+stage_taken quiet n = absurd (n refl)
+stage_taken claimed n = omega arith
+stage_taken raised n = omega arith
+stage_taken (put o) n = omega arith
+stage_taken (posted o) n = omega arith
+
+stage_end : (t : Stage) → stage_word t ≡ 2 → 4 ≤ rank t
+stage_end quiet e = absurd (omega arith)
+stage_end claimed e = absurd (omega arith)
+stage_end raised e = absurd (omega arith)
+stage_end (put o) e = absurd (omega arith)
+stage_end (posted o) e = omega arith
+
+pub end_stage : (t : Stage) → 4 ≤ rank t → stage_word t ≡ 2
+end_stage quiet e = absurd (omega arith)
+end_stage claimed e = absurd (omega arith)
+end_stage raised e = absurd (omega arith)
+end_stage (put o) e = absurd (omega arith)
+end_stage (posted o) e = refl
+
+at_claimed : (t : Stage) → claim_at t ≡ Claimed → t ≡ claimed
+at_claimed quiet e = absurd (cc)
+at_claimed claimed e = refl
+at_claimed raised e = absurd (cc)
+at_claimed (put o) e = absurd (cc)
+at_claimed (posted o) e = absurd (cc)
+
+at_lifted : (t : Stage) → claim_at t ≡ Lifted → t ≡ raised
+at_lifted quiet e = absurd (cc)
+at_lifted claimed e = absurd (cc)
+at_lifted raised e = refl
+at_lifted (put o) e = absurd (cc)
+at_lifted (posted o) e = absurd (cc)
+
+pub at_put : (t : Stage) → claim_at t ≡ Put → (o : Outcome) × (t ≡ put o)
+at_put quiet e = absurd (cc)
+at_put claimed e = absurd (cc)
+at_put raised e = absurd (cc)
+at_put (put o) e = (o, refl)
+at_put (posted o) e = absurd (cc)
+
+-- where no pass has a claim and the word is not 0, it is 2
+settled_end : (t : Stage) → claim_at t ≡ Quiet → 0 < rank t → stage_word t ≡ 2
+settled_end quiet e h = absurd (omega arith)
+settled_end claimed e h = absurd (cc)
+settled_end raised e h = absurd (cc)
+settled_end (put o) e h = absurd (cc)
+settled_end (posted o) e h = refl
+
+claimed_quiet : Claimed ≡ Quiet → ⊥
+claimed_quiet e = cc
+
+pub lifted_quiet : Lifted ≡ Quiet → ⊥
+lifted_quiet e = cc
+
+pub put_quiet : Put ≡ Quiet → ⊥
+put_quiet e = cc
+
+abbrev held_outcome : Outcome → Slot → Outcome
+held_outcome d None = d
+held_outcome d (Some (Stored log)) = d
+held_outcome d (Some (Said o)) = o
+
+abbrev outcome_in : Outcome → List (ℕ × Slot) → Outcome
+outcome_in d [] = d
+outcome_in d (x ∷ xs) = held_outcome d x.1
+
+pub not_true : (p : Bool) → (p ≡ true → ⊥) → p ≡ false
+not_true true n = absurd (n refl)
+not_true false n = refl
+
+pub may_move : (v w : View) (o : Outcome) → w.question ≡ v.question → w.first ≡ v.first → MayPost v o → MayPost w o
+may_move v w (Verdict x) e f may = subst (λ (z : Question). IsRight z.formula.problem z.assumptions x) (sym e) may
+may_move v w Halted e f may = f ∙ may
+
+if_there : {X : Type 0} (o : Option X) (P : Type 0) → IsSome o → IfNone o P
+if_there None P there = absurd (search rules)
+if_there (Some x) P there = tt
+
+if_holds : {X : Type 0} (o : Option X) (P : Type 0) → P → IfNone o P
+if_holds None P p = p
+if_holds (Some x) P p = tt
+
+module _ (q : Question) where
+  pub claiming : (b : Board) (j : ℕ) (v : View) (c : Claim) → Fits q b j v → v.claim ≡ c → (c ≡ Quiet → ⊥) → (j ≡ b.claimer) × (claim_at b.stage ≡ c)
+  claiming b j v c f is held = dite (ℕ_discrete j b.claimer) (λ e. (e, sym (f.claim_here e) ∙ is)) (λ n. absurd (held (sym is ∙ f.claim_else n)))
+
+  put_second : (s : St) (r : K q s) (n : ℕ) → (length (set s.words 1 n) ≡ 2) × (get_or (set s.words 1 n) 0 0 ≡ get_or s.words 0 0) × (get_or (set s.words 1 n) 1 0 ≡ n)
+  put_second s r n = let two : length s.words ≡ 2 = r.words in (length-set s.words 1 n ∙ two, get_or-set_other s.words 1 0 n 0 (λ e. omega arith), get_or-set_same s.words 1 n 0 (omega arith))
+
+  -- a step by which the outcome goes to the stage t, by the pass id
+  staged : (s : St) (r : K q s) (id : ℕ) (v : View) (t : Stage) (over alarm alarms : Bool) (ws : List ℕ) (hs : List (maybe.Option Slot)) → get_elem? s.views id ≡ some v → v.spent ≡ false
+      → (id ≡ r.board.claimer) ⊎ (claim_at r.board.stage ≡ Quiet) → rank r.board.stage ≤ rank t → RightAt q alarms t → 0 < rank t → (over ≡ true → 4 ≤ rank t) → (alarm ≡ true → (4 ≤ rank t) ⊎ (claim_at t ≡ Put))
+      → (id ≡ 0 → alarm ≡ alarms) → (id ≢ 0 → (alarm ≡ false) × (alarms ≡ r.board.alarmed))
+      → (length ws ≡ 2) × (get_or ws 0 0 ≡ get_or s.words 0 0) × (get_or ws 1 0 ≡ stage_word t) → get_elem? hs 0 ≡ get_elem? s.homes 0 → get_elem? hs 1 ≡ some (outcome_home t)
+      → K q record { words = ws; homes = hs; views = set s.views id (record v { claim = claim_at t; posted = over; alarmed = alarm }) }
+  staged s r id v t over alarm alarms ws hs at alive mine up right some_rank ended rung here else words store outcome =
+      let b : Board = r.board in
+      let b' : Board = record b { claimer = id; stage = t; alarmed = alarms } in
+      let w : View = record v { claim = claim_at t; posted = over; alarmed = alarm } in
+      let f = r.each id v at in
+      let long = length-set s.views id w in
+      let quiet_else = λ (j : ℕ) (u : View) (g : Fits q b j u) (apart : j ≢ id). ⊎_elim (λ (h : id ≡ b.claimer). g.claim_else (λ same. apart (same ∙ sym h)))
+      (λ (free : claim_at b.stage ≡ Quiet). dite (ℕ_discrete j b.claimer) (λ same. g.claim_here same ∙ free) (λ other. g.claim_else other)) mine in
+      record {
+        board = b';
+        words = words.0;
+        turn_is = words.1 ∙ r.turn_is;
+        stage_is = words.2;
+        store_is = store ∙ r.store_is;
+        outcome_is = outcome;
+        legal = r.legal;
+        phase = r.phase;
+        right = right;
+        holder = subst (λ (k : ℕ). b.holder < k) (sym long) r.holder;
+        claimer = let h = inside s.views id v at in subst (λ (k : ℕ). id < k) (sym long) h;
+        counted = ap (λ (k : ℕ). k + b.joins) (live_same s.views id v w at refl) ∙ r.counted;
+        each = each_set (Fits q b') s.views id w
+            record {
+              about = f.about;
+              resting = λ dead. absurd (true≢false (sym dead ∙ alive));
+              seen = f.seen;
+              told = f.told;
+              turn_here = f.turn_here;
+              turn_else = f.turn_else;
+              claim_here = λ _. refl;
+              claim_else = λ other. absurd (other refl);
+              late = λ _. some_rank;
+              posted = ended;
+              alarmed = rung;
+              first_here = λ z. let m = f.first_here z in (m.0, m.1, here z, m.3, m.4);
+              first_else = λ n. ((f.first_else n).0, (else n).0);
+            }
+            (λ j u apart e.
+            let g = r.each j u e in
+            record {
+              about = g.about;
+              resting = g.resting;
+              seen = g.seen;
+              told = g.told;
+              turn_here = g.turn_here;
+              turn_else = g.turn_else;
+              claim_here = λ same. absurd (apart same);
+              claim_else = λ _. quiet_else j u g apart;
+              late = λ h. some_rank;
+              posted = λ h. let k = g.posted h in omega arith;
+              alarmed = λ h. inl (⊎_elim (λ (k : 4 ≤ rank b.stage). omega arith) (λ (k : u.claim ≡ Put). absurd (put_quiet (sym k ∙ quiet_else j u g apart))) (g.alarmed h));
+              first_here = λ z. let m = g.first_here z in (m.0, m.1, m.2 ∙ sym (else (λ o. apart (z ∙ sym o))).1, m.3, m.4);
+              first_else = g.first_else;
+            });
+      }
+
+  pub asks : (slots id : ℕ) (me : Mine) → me.0.spent ≡ false → me.0.claim ≡ Quiet → Allows (K q) slots id me 1 (λ n. either (eqb n 0) 1 n) (asked (step slots 1 0 1 none) me)
+  asks slots id me alive calm s r wide at small =
+      let b : Board = r.board in
+      let n : ℕ = get_or s.words 1 0 in
+      let f = r.each id me.0 at in
+      exchanged n 0 1 (λ x. (w : View) × (a : Act Slot) × Valid s.homes me.1 a × K q (stepped s 1 x id me.1 w a) × asked (step slots 1 0 1 none) me n (w, carried_after me.1 a))
+      (λ hit.
+      let on : b.stage ≡ quiet = stage_free b.stage (sym r.stage_is ∙ hit) in
+      let low : rank b.stage ≡ 0 = ap rank on in (
+        at_claim Claimed me.0,
+        keeps,
+        tt,
+        staged s r id me.0 claimed me.0.posted me.0.alarmed b.alarmed (set s.words 1 1) s.homes at alive (inr (ap claim_at on)) (omega arith) tt (omega arith)
+            (λ h. let k = f.posted h in absurd (omega arith)) (λ h. ⊎_elim (λ (x : 4 ≤ rank b.stage). absurd (omega arith)) (λ (x : me.0.claim ≡ Put). absurd (put_quiet (sym x ∙ calm))) (f.alarmed h)) (λ z. (f.first_here z).2) (λ o. ((f.first_else o).1, refl))
+            (put_second s r 1) refl (r.outcome_is ∙ ap (λ t. some (outcome_home t)) on),
+        (refl, (λ _. refl), λ miss. absurd (miss hit)),
+      ))
+      (λ miss. (
+        came_late me.0,
+        keeps,
+        tt,
+        stays q s r id me.0 (came_late me.0) (set s.words 1 n) at refl
+            record { about = f.about; resting = f.resting; seen = f.seen; told = f.told; turn_here = f.turn_here; turn_else = f.turn_else; claim_here = f.claim_here; claim_else = f.claim_else; late = λ _. stage_taken b.stage (λ z. miss (r.stage_is ∙ z)); posted = f.posted; alarmed = f.alarmed; first_here = f.first_here; first_else = f.first_else }
+            (put_second s r n),
+        (refl, (λ hit. absurd (miss hit)), λ _. refl),
+      ))
+
+  pub holds_up : (slots id : ℕ) (me : Mine) → slots ≡ 2 → me.0.spent ≡ false → me.0.claim ≡ Claimed → Allows (K q) slots id me 1 (λ n. n) (held_up (step slots 1 0 0 none) me)
+  holds_up slots id me two alive is s r wide at small =
+      let b : Board = r.board in
+      let n : ℕ = get_or s.words 1 0 in
+      let f = r.each id me.0 at in
+      let held = claiming b id me.0 Claimed f is claimed_quiet in
+      let on : b.stage ≡ claimed = at_claimed b.stage held.1 in
+      let low : rank b.stage ≡ 1 = ap rank on in
+      let deep : length s.homes ≡ 2 = wide ∙ two in
+      let ws = put_second s r n in (
+        at_claim Lifted me.0,
+        takes 1 None,
+        r.outcome_is ∙ ap (λ t. some (outcome_home t)) on,
+        staged s r id me.0 raised me.0.posted me.0.alarmed b.alarmed (set s.words 1 n) (set s.homes 1 none) at alive (inl held.0) (omega arith) tt (omega arith)
+            (λ h. let k = f.posted h in absurd (omega arith)) (λ h. ⊎_elim (λ (x : 4 ≤ rank b.stage). absurd (omega arith)) (λ (x : me.0.claim ≡ Put). let y : Claimed ≡ Put = sym is ∙ x in absurd (cc)) (f.alarmed h)) (λ z. (f.first_here z).2) (λ o. ((f.first_else o).1, refl))
+            (ws.0, ws.1, ws.2 ∙ r.stage_is ∙ ap stage_word on) (set_else s.homes 1 0 none (λ e. omega arith)) (set_here s.homes 1 none (omega arith)),
+        (refl, refl),
+      )
+
+  right_after : (v : View) (b : Board) (o : Outcome) → v.question ≡ q → MayPost v o → IsRightOutcome q (alarm_after o b.alarmed) o
+  right_after v b (Verdict x) e may = subst (λ (z : Question). IsRight z.formula.problem z.assumptions x) e may
+  right_after v b Halted e may = refl
+
+  alarm_else : (v : View) (b : Board) (id : ℕ) (o : Outcome) → Fits q b id v → MayPost v o → id ≢ 0 → (alarm_after o v.alarmed ≡ false) × (alarm_after o b.alarmed ≡ b.alarmed)
+  alarm_else v b id (Verdict x) f may n = ((f.first_else n).1, refl)
+  alarm_else v b id Halted f may n = absurd (n (first_is q b id v f may))
+
+  pub lays : (slots id : ℕ) (me : Mine) (o : Outcome) (xs : List (ℕ × Slot)) → slots ≡ 2 → me.0.spent ≡ false → me.0.claim ≡ Lifted → me.1 ≡ (1, Some (Said o)) ∷ xs → MayPost me.0 o
+      → Allows (K q) slots id me 1 (λ n. n) (laid (step slots 1 0 0 none) me)
+  lays slots id me o xs two alive is hand may s r wide at small =
+      let b : Board = r.board in
+      let n : ℕ = get_or s.words 1 0 in
+      let f = r.each id me.0 at in
+      let held = claiming b id me.0 Lifted f is lifted_quiet in
+      let on : b.stage ≡ raised = at_lifted b.stage held.1 in
+      let low : rank b.stage ≡ 2 = ap rank on in
+      let deep : length s.homes ≡ 2 = wide ∙ two in
+      let home : maybe.Option Slot = some (Some (Said o)) in
+      let ws = put_second s r n in (
+        with_outcome o me.0,
+        gives,
+        tt,
+        subst (λ c. K q (stepped s 1 n id c (with_outcome o me.0) gives)) (sym hand)
+            (staged s r id me.0 (put o) me.0.posted (alarm_after o me.0.alarmed) (alarm_after o b.alarmed) (set s.words 1 n) (set s.homes 1 home) at alive (inl held.0) (omega arith)
+            (right_after me.0 b o (f.about alive) may) (omega arith) (λ h. let k = f.posted h in absurd (omega arith)) (λ _. inr refl)
+            (λ z. ap (alarm_after o) (f.first_here z).2) (alarm_else me.0 b id o f may)
+            (ws.0, ws.1, ws.2 ∙ r.stage_is ∙ ap stage_word on) (set_else s.homes 1 0 home (λ e. omega arith)) (set_here s.homes 1 home (omega arith))),
+        (refl, λ p e. let both : (1, Some (Said o)) ∷ xs ≡ (1, Some (Said p)) ∷ rest me.1 = sym hand ∙ e in let same : o ≡ p = ap (outcome_in Halted) both in ap (λ x. with_outcome x me.0) same),
+      )
+
+  pub shows : (slots id : ℕ) (me : Mine) → me.0.spent ≡ false → me.0.claim ≡ Put → Allows (K q) slots id me 1 (λ _. 2) (λ _. shown (step slots 1 2 0 none) me 2)
+  shows slots id me alive is s r wide at small =
+      let b : Board = r.board in
+      let f = r.each id me.0 at in
+      let held = claiming b id me.0 Put f is put_quiet in
+      let p = at_put b.stage held.1 in
+      let on : b.stage ≡ put p.0 = p.1 in
+      let low : rank b.stage ≡ 3 = ap rank on in (
+        has_posted me.0,
+        keeps,
+        tt,
+        staged s r id me.0 (posted p.0) true me.0.alarmed b.alarmed (set s.words 1 2) s.homes at alive (inl held.0) (omega arith) (subst (RightAt q b.alarmed) on r.right) (omega arith)
+            (λ _. omega arith) (λ _. inl (omega arith)) (λ z. (f.first_here z).2) (λ o. ((f.first_else o).1, refl))
+            (put_second s r 2) refl (r.outcome_is ∙ ap (λ t. some (outcome_home t)) on),
+        (refl, refl),
+      )
+
+  pub glances : (slots id : ℕ) (me : Mine) → Allows (K q) slots id me 1 (λ n. n) (looked (step slots 1 0 0 none) me)
+  glances slots id me s r wide at small =
+      let b : Board = r.board in
+      let n : ℕ = get_or s.words 1 0 in
+      let f = r.each id me.0 at in
+      dite (ℕ_discrete n 2)
+      (λ over. (
+        saw_end me.0,
+        keeps,
+        tt,
+        stays q s r id me.0 (saw_end me.0) (set s.words 1 n) at refl
+            record { about = f.about; resting = f.resting; seen = f.seen; told = f.told; turn_here = f.turn_here; turn_else = f.turn_else; claim_here = f.claim_here; claim_else = f.claim_else; late = f.late; posted = λ _. stage_end b.stage (sym r.stage_is ∙ over); alarmed = f.alarmed; first_here = f.first_here; first_else = f.first_else }
+            (put_second s r n),
+        (refl, (λ _. refl), λ not. absurd (not over)),
+      ))
+      (λ not. (
+        saw_none me.0,
+        keeps,
+        tt,
+        stays q s r id me.0 (saw_none me.0) (set s.words 1 n) at refl
+            record { about = f.about; resting = f.resting; seen = f.seen; told = f.told; turn_here = f.turn_here; turn_else = f.turn_else; claim_here = f.claim_here; claim_else = f.claim_else; late = f.late; posted = f.posted; alarmed = f.alarmed; first_here = f.first_here; first_else = f.first_else }
+            (put_second s r n),
+        (refl, (λ over. absurd (not over)), λ _. (not_true me.0.posted (λ h. not (r.stage_is ∙ end_stage b.stage (f.posted h))), refl)),
+      ))
+
+  -- where every other pass was joined, the turn of the first pass is the only one, and so is its claim
+  alone : (s : St) (r : K q s) (id : ℕ) (v : View) (at : get_elem? s.views id ≡ some v) → v.first ≡ true → v.splits ≡ v.joins → (j : ℕ) (u : View) → get_elem? s.views j ≡ some u → j ≢ id → u.spent ≡ true
+  alone s r id v at first even j u e off = go u.spent refl
+    where
+      go : (t : Bool) → u.spent ≡ t → u.spent ≡ true
+      go true is = is
+      go false is =
+          let f = r.each id v at in
+          let mine = f.first_here (first_is q r.board id v f first) in
+          let two = live_two s.views j id u v off e at is mine.1 in
+          let c = r.counted in
+          let p : r.board.splits ≡ r.board.joins = sym mine.3 ∙ even ∙ mine.4 in
+          absurd (omega arith)
+
+  all_free : (s : St) (r : K q s) (id : ℕ) (v : View) → get_elem? s.views id ≡ some v → v.first ≡ true → v.splits ≡ v.joins → v.turn ≡ Free → r.board.turn ≡ Free
+  all_free s r id v at first even free =
+      let h = there s.views r.board.holder r.holder in
+      let g = r.each r.board.holder h.0 h.1 in
+      dite (ℕ_discrete r.board.holder id)
+      (λ same. let f = r.each id v at in sym (f.turn_here (sym same)) ∙ free)
+      (λ off. sym (g.turn_here refl) ∙ (g.resting (alone s r id v at first even r.board.holder h.0 h.1 off)).0)
+
+  all_quiet : (s : St) (r : K q s) (id : ℕ) (v : View) → get_elem? s.views id ≡ some v → v.first ≡ true → v.splits ≡ v.joins → v.claim ≡ Quiet → claim_at r.board.stage ≡ Quiet
+  all_quiet s r id v at first even calm =
+      let h = there s.views r.board.claimer r.claimer in
+      let g = r.each r.board.claimer h.0 h.1 in
+      dite (ℕ_discrete r.board.claimer id)
+      (λ same. let f = r.each id v at in sym (f.claim_here (sym same)) ∙ calm)
+      (λ off. sym (g.claim_here refl) ∙ (g.resting (alone s r id v at first even r.board.claimer h.0 h.1 off)).1)
+
+  free_word : (t : Phase) (log : List Shared) → turn_word t ≡ 0 → store_home log t ≡ some (Some (Stored log))
+  free_word Free log e = refl
+  free_word Rattle.share_turn.specs.declared.view.Phase.TheVariants.Won log e = refl
+  free_word (Rattle.share_turn.specs.declared.view.Phase.TheVariants.Away h) log e = absurd (omega arith)
+  free_word (Rattle.share_turn.specs.declared.view.Phase.TheVariants.Out h) log e = absurd (omega arith)
+  free_word (Rattle.share_turn.specs.declared.view.Phase.TheVariants.Back h) log e = refl
+
+  posted_home : (t : Stage) (a : Bool) → stage_word t ≡ 2 → RightAt q a t → (o : Outcome) × (outcome_home t ≡ some (Some (Said o))) × IsRightOutcome q a o
+  posted_home quiet a e r = absurd (omega arith)
+  posted_home claimed a e r = absurd (omega arith)
+  posted_home raised a e r = absurd (omega arith)
+  posted_home (put o) a e r = absurd (omega arith)
+  posted_home (posted o) a e r = (o, refl, r)
+
+  module _ (id : ℕ) (v : View) (ws : List ℕ) (xs : List Slot) (end : Final (Seen (K q) id v) ws xs) (first : v.first ≡ true) where
+    pub ends_store : get_elem? ws 0 ≡ some 0 → (log : List Shared) × (get_elem? xs 0 ≡ some (Some (Stored log))) × IsLegalFor v.question log × StartsWith log v.seen
+    ends_store word =
+        let s : St = end.0 in
+        let r : K q s = end.1.0 in
+        let b : Board = r.board in
+        let f = r.each id v end.1.1 in
+        let mine = f.first_here (first_is q b id v f first) in
+        let a = f.about mine.1 in
+        let zero_th : turn_word b.turn ≡ 0 = sym r.turn_is ∙ ap (λ (l : List ℕ). get_or l 0 0) end.2 ∙ index_of ws 0 0 word in
+        (b.log, end.4 0 (Some (Stored b.log)) (r.store_is ∙ ap (λ h. some h) (free_word b.turn b.log zero_th)), subst (λ (z : Question). IsLegalFor z b.log) (sym a) r.legal, f.seen)
+
+    pub ends_free : v.splits ≡ v.joins → v.turn ≡ Free → (n : ℕ) → get_elem? ws 0 ≡ some n → n ≡ 0
+    ends_free even free n word =
+        let s : St = end.0 in
+        let r : K q s = end.1.0 in
+        sym (index_of ws 0 n word) ∙ ap (λ (l : List ℕ). get_or l 0 0) (sym end.2) ∙ r.turn_is ∙ ap turn_word (all_free s r id v end.1.1 first even free)
+
+    pub ends_outcome : get_elem? ws 1 ≡ some 2 → (o : Outcome) × (get_elem? xs 1 ≡ some (Some (Said o))) × IsRightOutcome v.question v.alarmed o
+    ends_outcome word =
+        let s : St = end.0 in
+        let r : K q s = end.1.0 in
+        let b : Board = r.board in
+        let f = r.each id v end.1.1 in
+        let mine = f.first_here (first_is q b id v f first) in
+        let a = f.about mine.1 in
+        let two : stage_word b.stage ≡ 2 = sym r.stage_is ∙ ap (λ (l : List ℕ). get_or l 1 0) end.2 ∙ index_of ws 1 2 word in
+        let p = posted_home b.stage b.alarmed two r.right in
+        (p.0, end.4 1 (Some (Said p.0)) (r.outcome_is ∙ ap (λ h. some h) p.1), subst (λ (z : Question × Bool). IsRightOutcome z.0 z.1 p.0) (λ i. (sym a i, sym mine.2 i)) p.2)
+
+    pub ends_posted : v.posted ≡ true → (n : ℕ) → get_elem? ws 1 ≡ some n → n ≡ 2
+    ends_posted h n word =
+        let s : St = end.0 in
+        let r : K q s = end.1.0 in
+        sym (index_of ws 1 n word) ∙ ap (λ (l : List ℕ). get_or l 1 0) (sym end.2) ∙ r.stage_is ∙ end_stage r.board.stage ((r.each id v end.1.1).posted h)
+
+    pub ends_late : v.splits ≡ v.joins → v.claim ≡ Quiet → v.late ≡ true → (n : ℕ) → get_elem? ws 1 ≡ some n → n ≡ 2
+    ends_late even calm h n word =
+        let s : St = end.0 in
+        let r : K q s = end.1.0 in
+        sym (index_of ws 1 n word) ∙ ap (λ (l : List ℕ). get_or l 1 0) (sym end.2) ∙ r.stage_is ∙ settled_end r.board.stage (all_quiet s r id v end.1.1 first even calm) ((r.each id v end.1.1).late h)
+
+    pub close_store : (o : Option (List Shared)) (turn : ℕ) (held : Slot) → ((log : List Shared) → turn ≡ 0 → held ≡ Some (Stored log) → o ≡ Some log) → (turn ≢ 0 → o ≡ None)
+        → get_elem? ws 0 ≡ some turn → get_elem? xs 0 ≡ some held → IfSome o (λ (log : List Shared). IsLegalFor v.question log × StartsWith log v.seen)
+    close_store o turn held free taken word slot = dite (ℕ_discrete turn 0)
+        (λ zero_th.
+        let e = ends_store (word ∙ ap (λ (n : ℕ). some n) zero_th) in
+        let same : held ≡ Some (Stored e.0) = some-injective held (Some (Stored e.0)) (sym slot ∙ e.1) in
+        subst (λ x. IfSome x (λ (log : List Shared). IsLegalFor v.question log × StartsWith log v.seen)) (sym (free e.0 zero_th same)) (e.2, e.3))
+        (λ not. subst (λ x. IfSome x (λ (log : List Shared). IsLegalFor v.question log × StartsWith log v.seen)) (sym (taken not)) tt)
+
+    pub close_all : (o : Option (List Shared)) (turn : ℕ) (held : Slot) → ((log : List Shared) → turn ≡ 0 → held ≡ Some (Stored log) → o ≡ Some log)
+        → get_elem? ws 0 ≡ some turn → get_elem? xs 0 ≡ some held → v.turn ≡ Free → v.splits ≡ v.joins → IsSome o
+    close_all o turn held free word slot calm even =
+        let zero_th : turn ≡ 0 = ends_free even calm turn word in
+        let e = ends_store (word ∙ ap (λ (n : ℕ). some n) zero_th) in
+        let same : held ≡ Some (Stored e.0) = some-injective held (Some (Stored e.0)) (sym slot ∙ e.1) in
+        subst (λ (x : Option (List Shared)). IsSome x) (sym (free e.0 zero_th same)) (search rules)
+
+    pub close_none : (o : Option (List Shared)) (turn : ℕ) (held : Slot) → ((log : List Shared) → turn ≡ 0 → held ≡ Some (Stored log) → o ≡ Some log)
+        → get_elem? ws 0 ≡ some turn → get_elem? xs 0 ≡ some held → v.turn ≡ Free → IfNone o (v.joins < v.splits)
+    close_none o turn held free word slot calm = dite (ℕ_discrete v.splits v.joins)
+        (λ even. if_there o (v.joins < v.splits) (close_all o turn held free word slot calm even))
+        (λ not.
+        let s : St = end.0 in
+        let r : K q s = end.1.0 in
+        let f = r.each id v end.1.1 in
+        let mine = f.first_here (first_is q r.board id v f first) in
+        let some_live = live_one s.views id v end.1.1 mine.1 in
+        let count = r.counted in
+        let splits : v.splits ≡ r.board.splits = mine.3 in
+        let joins : v.joins ≡ r.board.joins = mine.4 in
+        if_holds o (v.joins < v.splits) (omega arith))
+
+    pub close_outcome : (o : Option Outcome) (stage : ℕ) (said : Slot) → ((x : Outcome) → stage ≡ 2 → said ≡ Some (Said x) → o ≡ Some x) → (stage ≢ 2 → o ≡ None)
+        → get_elem? ws 1 ≡ some stage → get_elem? xs 1 ≡ some said → IfSome o (λ x. IsRightOutcome v.question v.alarmed x)
+    close_outcome o stage said ended not_ended word slot = dite (ℕ_discrete stage 2)
+        (λ two.
+        let e = ends_outcome (word ∙ ap (λ (n : ℕ). some n) two) in
+        let same : said ≡ Some (Said e.0) = some-injective said (Some (Said e.0)) (sym slot ∙ e.1) in
+        subst (λ x. IfSome x (λ y. IsRightOutcome v.question v.alarmed y)) (sym (ended e.0 two same)) e.2)
+        (λ not. subst (λ x. IfSome x (λ y. IsRightOutcome v.question v.alarmed y)) (sym (not_ended not)) tt)
+
+    pub close_ended : (o : Option Outcome) (stage : ℕ) (said : Slot) → ((x : Outcome) → stage ≡ 2 → said ≡ Some (Said x) → o ≡ Some x)
+        → get_elem? ws 1 ≡ some stage → get_elem? xs 1 ≡ some said → stage ≡ 2 → IsSome o
+    close_ended o stage said ended word slot two =
+        let e = ends_outcome (word ∙ ap (λ (n : ℕ). some n) two) in
+        let same : said ≡ Some (Said e.0) = some-injective said (Some (Said e.0)) (sym slot ∙ e.1) in
+        subst (λ (x : Option Outcome). IsSome x) (sym (ended e.0 two same)) (search rules)
