@@ -13,6 +13,8 @@ pub mod laws;
 mod pass;
 mod steps;
 mod table;
+#[cfg(test)]
+mod tests;
 mod view;
 
 pub use answers::{BeginRefused, Closed, Look, PostAnswer, Turn};
