@@ -21,9 +21,10 @@ use Rattle.share_turn.specs.Views.{IsLegalFor, IsRightOutcome}
 use Rattle.share_turn.specs.Board.{Slot, RightAt, live, Board, Fits, HasBoard, Stage, quiet, claimed, raised, put, posted, rank, stage_word, claim_at, outcome_home, turn_word, store_home, PhaseOf}
 use Rattle.share_turn.specs.Rule.{IsLive, HasOut, KeepsTurns}
 use Rattle.share_turn.proofs.Fronts.{there}
-use Rattle.share_turn.proofs.Keeps.{St, word_free, holding, away_free, out_free, back_free, first_is}
-use Rattle.share_turn.proofs.Says.{not_true, claiming, stage_free, at_put, lifted_quiet, put_quiet, end_stage}
+use Rattle.share_turn.proofs.TurnSteps.{St, word_free, holding, away_free, out_free, back_free, first_is}
+use Rattle.share_turn.proofs.OutcomeSteps.{not_true, claiming, stage_free, at_put, lifted_quiet, put_quiet, end_stage}
 
+-- word 0 is 0 or 1
 word_cases : (t : Phase) → (turn_word t ≡ 0) ⊎ (turn_word t ≡ 1)
 word_cases Free = inl refl
 word_cases Won = inr refl
@@ -31,6 +32,7 @@ word_cases (Away h) = inr refl
 word_cases (Out h) = inr refl
 word_cases (Back h) = inr refl
 
+-- word 1 is 0, 1 or 2
 stage_cases : (t : Stage) → (stage_word t ≡ 0) ⊎ (stage_word t ≡ 1) ⊎ (stage_word t ≡ 2)
 stage_cases quiet = inl refl
 stage_cases claimed = inr (inl refl)
@@ -38,6 +40,7 @@ stage_cases raised = inr (inl refl)
 stage_cases (put o) = inr (inl refl)
 stage_cases (posted o) = inr (inr refl)
 
+-- the store is at home unless it is out
 home_unless : (log : List Shared) (t : Phase) → ((h : List Shared) → HasOut t h → ⊥) → store_home log t ≡ some (Some (Stored log))
 home_unless log Free n = refl
 home_unless log Won n = refl
@@ -45,17 +48,21 @@ home_unless log (Away h) n = absurd (n h (inr refl))
 home_unless log (Out h) n = absurd (n h (inl refl))
 home_unless log (Back h) n = refl
 
+-- a store that is out is not at home
 out_home : (log other : List Shared) (t : Phase) (h : List Shared) → HasOut t h → store_home log t ≡ some (Some (Stored other)) → ⊥
 out_home log other t h out e = ⊎_elim
     (λ (is : t ≡ Out h). let f : store_home log (Out h) ≡ some (Some (Stored other)) = ap (store_home log) (sym is) ∙ e in cc)
     (λ (is : t ≡ Away h). let f : store_home log (Away h) ≡ some (Some (Stored other)) = ap (store_home log) (sym is) ∙ e in cc) out
 
+-- its log is the log
 out_log : (log : List Shared) (t : Phase) (h : List Shared) → HasOut t h → PhaseOf log t → h ≡ log
 out_log log t h out p = ⊎_elim (λ (is : t ≡ Out h). subst (PhaseOf log) is p) (λ (is : t ≡ Away h). subst (PhaseOf log) is p) out
 
+-- and the turn is not free then
 has_free : (t : Phase) (h : List Shared) → HasOut t h → t ≡ Free → ⊥
 has_free t h out e = ⊎_elim (λ (is : t ≡ Out h). out_free h (sym is ∙ e)) (λ (is : t ≡ Away h). away_free h (sym is ∙ e)) out
 
+-- slot 0 is away only in the phase `Away`
 none_away : (log : List Shared) (t : Phase) → store_home log t ≡ none → (h : List Shared) × (t ≡ Away h)
 none_away log Free e = absurd (cc)
 none_away log Won e = absurd (cc)
@@ -63,6 +70,7 @@ none_away log (Away h) e = (h, refl)
 none_away log (Out h) e = absurd (cc)
 none_away log (Back h) e = absurd (cc)
 
+-- slot 1 is away only where the claim is `Lifted`
 none_raised : (t : Stage) → outcome_home t ≡ none → claim_at t ≡ Lifted
 none_raised quiet e = absurd (cc)
 none_raised claimed e = absurd (cc)
@@ -70,6 +78,7 @@ none_raised raised e = refl
 none_raised (put o) e = absurd (cc)
 none_raised (posted o) e = absurd (cc)
 
+-- and there it is
 raised_none : (t : Stage) → claim_at t ≡ Lifted → outcome_home t ≡ none
 raised_none quiet e = absurd (cc)
 raised_none claimed e = absurd (cc)
@@ -77,6 +86,7 @@ raised_none raised e = refl
 raised_none (put o) e = absurd (cc)
 raised_none (posted o) e = absurd (cc)
 
+-- where word 1 is 1 a pass claims the outcome, which is not posted
 busy_stage : (t : Stage) → stage_word t ≡ 1 → (claim_at t ≡ Quiet → ⊥) × (rank t < 4)
 busy_stage quiet e = absurd (omega arith)
 busy_stage claimed e = ((λ f. cc), omega arith)
@@ -84,6 +94,7 @@ busy_stage raised e = ((λ f. cc), omega arith)
 busy_stage (put o) e = ((λ f. cc), omega arith)
 busy_stage (posted o) e = absurd (omega arith)
 
+-- where word 1 is 2 none does
 ended_stage : (t : Stage) → stage_word t ≡ 2 → claim_at t ≡ Quiet
 ended_stage quiet e = absurd (omega arith)
 ended_stage claimed e = absurd (omega arith)
@@ -91,6 +102,7 @@ ended_stage raised e = absurd (omega arith)
 ended_stage (put o) e = absurd (omega arith)
 ended_stage (posted o) e = refl
 
+-- an outcome that was put or posted is at home and right
 put_right : (q : Question) (a : Bool) (t : Stage) → (stage_word t ≡ 2) ⊎ (claim_at t ≡ Put) → RightAt q a t → (o : Outcome) × (outcome_home t ≡ some (Some (Said o))) × IsRightOutcome q a o
 put_right q a quiet d r = absurd (⊎_elim (λ (e : 0 ≡ 2). omega arith) (λ (e : Quiet ≡ Put). cc) d)
 put_right q a claimed d r = absurd (⊎_elim (λ (e : 1 ≡ 2). omega arith) (λ (e : Claimed ≡ Put). cc) d)
@@ -98,27 +110,34 @@ put_right q a raised d r = absurd (⊎_elim (λ (e : 1 ≡ 2). omega arith) (λ 
 put_right q a (put o) d r = (o, refl, r)
 put_right q a (posted o) d r = (o, refl, r)
 
+-- a pass with the turn or a claim was not joined
 is_live : (q : Question) (b : Board) (j : ℕ) (v : View) → Fits q b j v → (v.turn ≡ Free → v.claim ≡ Quiet → ⊥) → v.spent ≡ false
 is_live q b j v f busy = not_true v.spent (λ dead. let t = f.resting dead in busy t.0 t.1)
 
 module _ (q : Question) (s : St) (r : HasBoard q s) where
+  -- who has the turn was not joined
   holder_live : (r.board.turn ≡ Free → ⊥) → (w : View) × IsLive s r.board.holder w × (w.turn ≡ r.board.turn)
   holder_live taken = let h = there s.views r.board.holder r.holder in let g = r.each r.board.holder h.0 h.1 in let t = g.turn_here refl in
       (h.0, (h.1, is_live q r.board r.board.holder h.0 g (λ free _. taken (sym t ∙ free))), t)
 
+  -- who claims the outcome was not joined
   claimer_live : (claim_at r.board.stage ≡ Quiet → ⊥) → (w : View) × IsLive s r.board.claimer w × (w.claim ≡ claim_at r.board.stage)
   claimer_live taken = let h = there s.views r.board.claimer r.claimer in let g = r.each r.board.claimer h.0 h.1 in let t = g.claim_here refl in
       (h.0, (h.1, is_live q r.board r.board.claimer h.0 g (λ _ calm. taken (sym t ∙ calm))), t)
 
+  -- a pass whose turn is not free has the board's turn
   is_holder : (j : ℕ) (v : View) → IsLive s j v → v.turn ≢ Free → (j ≡ r.board.holder) × (r.board.turn ≡ v.turn)
   is_holder j v l taken = holding q r.board j v v.turn (r.each j v l.0) refl taken
 
+  -- a pass that claims has the board's claim
   is_claimer : (j : ℕ) (v : View) → IsLive s j v → v.claim ≢ Quiet → (j ≡ r.board.claimer) × (claim_at r.board.stage ≡ v.claim)
   is_claimer j v l taken = claiming q r.board j v v.claim (r.each j v l.0) refl taken
 
+  -- a store that some pass has out is out by the board
   out_here : (j : ℕ) (v : View) (h : List Shared) → IsLive s j v → HasOut v.turn h → HasOut r.board.turn h
   out_here j v h l out = let t = (is_holder j v l (has_free v.turn h out)).1 in subst (λ p. HasOut p h) (sym t) out
 
+  -- each sentence of the rule
   pub means : KeepsTurns q s
   means =
       let b : Board = r.board in

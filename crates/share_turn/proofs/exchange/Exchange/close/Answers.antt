@@ -3,7 +3,7 @@ use lib.ListN.{get_elem?}
 use Rattle.share_turn.specs.declared.view.Phase.TheVariants.{Free}
 use Rattle.share_store.specs.Log.{StartsWith}
 use Rattle.share_turn.specs.Views.{Known, IsLegalFor, IsRightOutcome}
-use Rattle.share_turn.proofs.Says.{close_store, close_all, close_none, close_outcome, close_ended, ends_posted, ends_late}
+use Rattle.share_turn.proofs.Ends.{close_store, close_all, close_none, close_outcome, close_ended, ends_posted, ends_late}
 use Rattle.share_turn.proofs.exchange.Exchange.close.Goals as goal
 
 pub returns-clause-store : goal.returns-clause-store

@@ -5,7 +5,7 @@ use Rattle.share_turn.specs.declared.view.Phase.TheVariants.{Away, Out, Back}
 use Rattle.share_turn.specs.declared.view.Question.{Question}
 use Rattle.share_turn.specs.Views.{IsLegalFor}
 use Rattle.share_turn.specs.Steps.{unsettled}
-use Rattle.share_turn.proofs.Keeps.{reaches, lands, releases, in_hand}
+use Rattle.share_turn.proofs.TurnSteps.{reaches, lands, releases, in_hand}
 use Rattle.share_turn.proofs.exchange.Exchange.give.Goals as goal
 
 pub load-requires : goal.load-requires

@@ -5,8 +5,8 @@ use Rattle.share_turn.specs.declared.view.View.{View}
 use Rattle.share_turn.specs.declared.held.Outcome.{Outcome}
 use Rattle.share_turn.specs.Views.{MayPost}
 use Rattle.share_turn.specs.Steps.{IsStill}
-use Rattle.share_turn.proofs.Keeps.{in_hand}
-use Rattle.share_turn.proofs.Says.{asks, holds_up, lays, shows, may_move}
+use Rattle.share_turn.proofs.TurnSteps.{in_hand}
+use Rattle.share_turn.proofs.OutcomeSteps.{asks, holds_up, lays, shows, may_move}
 use Rattle.share_turn.proofs.exchange.Exchange.post.Goals as goal
 
 pub compare_exchange-requires : goal.compare_exchange-requires

@@ -1,4 +1,4 @@
--- Each step keeps the rule.
+-- Each step on the turn keeps the rule.
 use Rattle.std.proofs.Common.{◌≡◌, ◌≢◌, ◌⊎◌, ℕ, zero, suc, ◌+◌, ◌<◌, ◌≤◌, eqb, Bool, true, false, true≢false, ◌||◌, if◌then◌else◌, List, [], ◌∷◌, ◌++◌, length, get_or, set, replicate, Some, None, Option, refl, sym, ap, ◌∙◌, subst, ⊎_elim, inl, inr, arith, length-set, length-append, get_or-set_other, get_or-set_same}
 use mathlib.Core.Logic.{dite}
 use mathlib.Core.Option.{some, none, some-ne-none, some-injective}
@@ -24,9 +24,11 @@ use Rattle.share_turn.specs.Steps.{Mine, settled, gone, tried, lifted, emptied, 
 use Rattle.share_turn.specs.Laws.{none_is_legal}
 use Rattle.share_turn.proofs.Fronts.{longer_both, inside, at_end, each_set, weight, live_set, live_same, live_end}
 
+-- the words, the slots and the views
 abbrev pub St : Type 0
 St = State Slot View
 
+-- word 0 is 0 only where the turn is free
 pub word_free : (t : Phase) → turn_word t ≡ 0 → t ≡ Free
 word_free Free e = refl
 word_free Won e = absurd (omega arith)
@@ -34,6 +36,7 @@ word_free (Away h) e = absurd (omega arith)
 word_free (Out h) e = absurd (omega arith)
 word_free (Back h) e = absurd (omega arith)
 
+-- and else it is 1
 word_taken : (t : Phase) → turn_word t ≢ 0 → turn_word t ≡ 1
 word_taken Free n = absurd (n refl)
 word_taken Won n = refl
@@ -41,10 +44,12 @@ word_taken (Away h) n = refl
 word_taken (Out h) n = refl
 word_taken (Back h) n = refl
 
+-- one of two is true where either is
 pub either_true : (p q : Bool) → (p || q) ≡ true → (p ≡ true) ⊎ (q ≡ true)
 either_true true q e = inl refl
 either_true false q e = inr e
 
+-- the phases other than `Free` are other
 won_free : Won ≡ Free → ⊥
 won_free e = cc
 
@@ -57,25 +62,31 @@ out_free h e = cc
 pub back_free : (h : List Shared) → Back h ≡ Free → ⊥
 back_free h e = cc
 
+-- the log of the store in a slot
 abbrev held_log : Slot → List Shared
 held_log None = []
 held_log (Some (Stored log)) = log
 held_log (Some (Said o)) = []
 
+-- the log of the store in the slot that was taken last
 abbrev log_in : List (ℕ × Slot) → List Shared
 log_in [] = []
 log_in (x ∷ xs) = held_log x.1
 
+-- the slot taken last stands before the rest
 pub in_hand : (c : List (ℕ × Slot)) (x : ℕ × Slot) (xs : List (ℕ × Slot)) → c ≡ x ∷ xs → c ≡ x ∷ rest c
 in_hand c x xs e = e ∙ (λ i. x ∷ ap rest (sym e) i)
 
 module _ (q : Question) where
+  -- the rule for this question
   abbrev pub K : St → Type 0
   K = HasBoard q
 
+  -- a pass whose turn is not free is the one that has it
   pub holding : (b : Board) (j : ℕ) (v : View) (t : Phase) → Fits q b j v → v.turn ≡ t → (t ≡ Free → ⊥) → (j ≡ b.holder) × (b.turn ≡ t)
   holding b j v t f is held = dite (ℕ_discrete j b.holder) (λ e. (e, sym (f.turn_here e) ∙ is)) (λ n. absurd (held (sym is ∙ f.turn_else n)))
 
+  -- the words after a write to word 0
   pub put_word : (s : St) (r : K s) (n : ℕ) → (length (set s.words 0 n) ≡ 2) × (get_or (set s.words 0 n) 0 0 ≡ n) × (get_or (set s.words 0 n) 1 0 ≡ get_or s.words 1 0)
   put_word s r n = let two : length s.words ≡ 2 = r.words in (length-set s.words 0 n ∙ two, get_or-set_same s.words 0 n 0 (omega arith), get_or-set_other s.words 0 1 n 0 (λ e. omega arith))
 
@@ -159,9 +170,11 @@ module _ (q : Question) where
     each = each_set (Fits q b) s.views id w fits (λ j u _ e. r.each j u e);
   }
 
+  -- the board as the table is made
   abbrev first_board : Board
   first_board = record { holder = 0; turn = Out []; log = []; claimer = 0; stage = quiet; alarmed = false; splits = 0; joins = 0 }
 
+  -- the table as it is made keeps the rule
   pub begins : K (opening (1 ∷ 0 ∷ []) (replicate 2 None) (opening_view q))
   begins = record {
     board = first_board;
@@ -197,6 +210,7 @@ module _ (q : Question) where
       }
       one (suc j) v e = absurd (some-ne-none v (sym e))
 
+  -- the try for the turn keeps it
   pub tries : (slots id : ℕ) (me : Mine) → me.0.turn ≡ Free → me.0.spent ≡ false → Allows K slots id me 0 (λ n. either (eqb n 0) 1 n) (tried (step slots 0 0 1 none) me)
   tries slots id me free alive s r wide at small =
       let b : Board = r.board in
@@ -222,6 +236,7 @@ module _ (q : Question) where
         (refl, (λ hit. absurd (miss hit)), λ _. (r.turn_is ∙ word_taken b.turn (λ z. miss (r.turn_is ∙ z)), refl)),
       ))
 
+  -- the store goes out of its slot
   pub lifts : (slots id : ℕ) (me : Mine) → slots ≡ 2 → me.0.turn ≡ Won → me.0.spent ≡ false → Allows K slots id me 0 (λ n. n) (lifted (step slots 0 0 0 none) me)
   lifts slots id me two is alive s r wide at small =
       let b : Board = r.board in
@@ -240,6 +255,7 @@ module _ (q : Question) where
         (log, refl, subst (λ (z : Question). IsLegalFor z log) (sym a) r.legal, f.seen, refl),
       )
 
+  -- the slot comes home without the store
   pub empties : (slots id : ℕ) (me : Mine) (h : List Shared) (xs : List (ℕ × Slot)) → slots ≡ 2 → me.0.turn ≡ Away h → me.1 ≡ (0, None) ∷ xs → me.0.spent ≡ false → Allows K slots id me 0 (λ n. n) (emptied (step slots 0 0 0 none) me)
   empties slots id me h xs two is hand alive s r wide at small =
       let b : Board = r.board in
@@ -258,6 +274,7 @@ module _ (q : Question) where
         (refl, ap (λ t. at_turn (settled t) me.0) (sym is)),
       )
 
+  -- the empty slot goes out
   pub reaches : (slots id : ℕ) (me : Mine) (h : List Shared) → slots ≡ 2 → me.0.turn ≡ Out h → me.0.spent ≡ false → Allows K slots id me 0 (λ n. n) (reached (step slots 0 0 0 none) me)
   reaches slots id me h two is alive s r wide at small =
       let b : Board = r.board in
@@ -275,6 +292,7 @@ module _ (q : Question) where
         (refl, ap (λ t. at_turn (Rattle.share_turn.specs.Steps.unsettled t) me.0) (sym is)),
       )
 
+  -- the slot comes home with a legal store that begins with what went out
   pub lands : (slots id : ℕ) (me : Mine) (h : List Shared) (store : List Shared) (xs : List (ℕ × Slot)) → slots ≡ 2 → me.0.turn ≡ Away h → me.1 ≡ (0, Some (Stored store)) ∷ xs → me.0.spent ≡ false
       → IsLegalFor me.0.question store → StartsWith store h → Allows K slots id me 0 (λ n. n) (landed (step slots 0 0 0 none) me)
   lands slots id me h store xs two is hand alive legal front s r wide at small =
@@ -298,6 +316,7 @@ module _ (q : Question) where
         (refl, λ log e. let both : (0, Some (Stored store)) ∷ xs ≡ (0, Some (Stored log)) ∷ rest me.1 = sym hand ∙ e in let same : store ≡ log = ap log_in both in ap (λ (l : List Shared). at_turn (Back l) me.0) same),
       )
 
+  -- the turn becomes free
   pub releases : (slots id : ℕ) (me : Mine) (h : List Shared) → me.0.turn ≡ Back h → me.0.spent ≡ false → Allows K slots id me 0 (λ _. 0) (λ _. released (step slots 0 0 0 none) me 0)
   releases slots id me h is alive s r wide at small =
       let b : Board = r.board in
@@ -317,9 +336,11 @@ module _ (q : Question) where
   pub first_is : (b : Board) (j : ℕ) (v : View) → Fits q b j v → v.first ≡ true → j ≡ 0
   first_is b j v f first = dite (ℕ_discrete j 0) (λ e. e) (λ n. absurd (true≢false (sym first ∙ (f.first_else n).0)))
 
+  -- false is not true
   pub no : false ≡ true → ⊥
   no e = true≢false (sym e)
 
+  -- a split keeps the rule
   pub divides : (id : ℕ) (v : View) → v.first ≡ true → Splits K id v (divided v) (newcomer v)
   divides id v first s r at =
       let b : Board = r.board in
@@ -395,6 +416,7 @@ module _ (q : Question) where
             }) (at_end vs (newcomer v) u j e);
       }
 
+  -- a join keeps it
   pub unites : (id other : ℕ) (v u : View) → v.first ≡ true → u.turn ≡ Free → u.claim ≡ Quiet → u.spent ≡ false → Joins K id v other u (united v u) gone
   unites id other v u first free calm alive s r at apart there =
       let b : Board = r.board in
@@ -472,6 +494,7 @@ module _ (q : Question) where
             }) j x e);
       }
 
+  -- and so does the load after it, which shows that both passes had seen beginnings of one log
   pub hears : (slots id : ℕ) (me : Mine) → Allows K slots id me 0 (λ n. n) (heard (step slots 0 0 0 none) me)
   hears slots id me s r wide at small =
       let b : Board = r.board in

@@ -1,4 +1,4 @@
--- The steps on the outcome, and what is known at the end.
+-- Each step on the outcome keeps the rule.
 use Rattle.std.proofs.Common.{◌≡◌, ◌≢◌, ◌⊎◌, ℕ, zero, suc, ◌+◌, ◌<◌, ◌≤◌, eqb, Bool, true, false, true≢false, List, [], ◌∷◌, ◌++◌, length, get_or, set, Some, None, Option, refl, sym, ap, ◌∙◌, subst, ⊎_elim, inl, inr, arith, length-set, get_or-set_other, get_or-set_same, IfSome, IfNone, IsSome, rules}
 use mathlib.Core.Logic.{dite}
 use mathlib.Core.Option.{some, none, some-injective}
@@ -25,8 +25,9 @@ use Rattle.share_turn.specs.Views.{IsLegalFor, IsRightOutcome, at_claim, came_la
 use Rattle.share_turn.specs.Board.{Slot, Board, Fits, HasBoard, Stage, quiet, claimed, raised, put, posted, rank, stage_word, claim_at, outcome_home, RightAt, turn_word, store_home, live}
 use Rattle.share_turn.specs.Steps.{Mine, asked, held_up, laid, shown, looked}
 use Rattle.share_turn.proofs.Fronts.{each_set, inside, live_same, live_one, live_two, there, index_of}
-use Rattle.share_turn.proofs.Keeps.{St, K, stays, first_is}
+use Rattle.share_turn.proofs.TurnSteps.{St, K, stays, first_is}
 
+-- word 1 is 0 only where nobody claimed the outcome
 pub stage_free : (t : Stage) → stage_word t ≡ 0 → t ≡ quiet
 stage_free quiet e = refl
 stage_free claimed e = absurd (omega arith)
@@ -34,6 +35,7 @@ stage_free raised e = absurd (omega arith)
 stage_free (put o) e = absurd (omega arith)
 stage_free (posted o) e = absurd (omega arith)
 
+-- and else somebody did
 stage_taken : (t : Stage) → stage_word t ≢ 0 → 0 < rank t
 stage_taken quiet n = absurd (n refl)
 stage_taken claimed n = omega arith
@@ -41,6 +43,7 @@ stage_taken raised n = omega arith
 stage_taken (put o) n = omega arith
 stage_taken (posted o) n = omega arith
 
+-- word 1 is 2 only where the outcome was posted
 stage_end : (t : Stage) → stage_word t ≡ 2 → 4 ≤ rank t
 stage_end quiet e = absurd (omega arith)
 stage_end claimed e = absurd (omega arith)
@@ -48,6 +51,7 @@ stage_end raised e = absurd (omega arith)
 stage_end (put o) e = absurd (omega arith)
 stage_end (posted o) e = omega arith
 
+-- and there it is
 pub end_stage : (t : Stage) → 4 ≤ rank t → stage_word t ≡ 2
 end_stage quiet e = absurd (omega arith)
 end_stage claimed e = absurd (omega arith)
@@ -55,6 +59,7 @@ end_stage raised e = absurd (omega arith)
 end_stage (put o) e = absurd (omega arith)
 end_stage (posted o) e = refl
 
+-- the stage that a claim shows
 at_claimed : (t : Stage) → claim_at t ≡ Claimed → t ≡ claimed
 at_claimed quiet e = absurd (cc)
 at_claimed claimed e = refl
@@ -76,14 +81,7 @@ at_put raised e = absurd (cc)
 at_put (put o) e = (o, refl)
 at_put (posted o) e = absurd (cc)
 
--- where no pass has a claim and the word is not 0, it is 2
-settled_end : (t : Stage) → claim_at t ≡ Quiet → 0 < rank t → stage_word t ≡ 2
-settled_end quiet e h = absurd (omega arith)
-settled_end claimed e h = absurd (cc)
-settled_end raised e h = absurd (cc)
-settled_end (put o) e h = absurd (cc)
-settled_end (posted o) e h = refl
-
+-- the claims other than `Quiet` are other
 claimed_quiet : Claimed ≡ Quiet → ⊥
 claimed_quiet e = cc
 
@@ -93,35 +91,33 @@ lifted_quiet e = cc
 pub put_quiet : Put ≡ Quiet → ⊥
 put_quiet e = cc
 
+-- the outcome in a slot
 abbrev held_outcome : Outcome → Slot → Outcome
 held_outcome d None = d
 held_outcome d (Some (Stored log)) = d
 held_outcome d (Some (Said o)) = o
 
+-- the outcome in the slot that was taken last
 abbrev outcome_in : Outcome → List (ℕ × Slot) → Outcome
 outcome_in d [] = d
 outcome_in d (x ∷ xs) = held_outcome d x.1
 
+-- what is not true is false
 pub not_true : (p : Bool) → (p ≡ true → ⊥) → p ≡ false
 not_true true n = absurd (n refl)
 not_true false n = refl
 
+-- what a pass may post depends on its question and on whether it is first
 pub may_move : (v w : View) (o : Outcome) → w.question ≡ v.question → w.first ≡ v.first → MayPost v o → MayPost w o
 may_move v w (Verdict x) e f may = subst (λ (z : Question). IsRight z.formula.problem z.assumptions x) (sym e) may
 may_move v w Halted e f may = f ∙ may
 
-if_there : {X : Type 0} (o : Option X) (P : Type 0) → IsSome o → IfNone o P
-if_there None P there = absurd (search rules)
-if_there (Some x) P there = tt
-
-if_holds : {X : Type 0} (o : Option X) (P : Type 0) → P → IfNone o P
-if_holds None P p = p
-if_holds (Some x) P p = tt
-
 module _ (q : Question) where
+  -- a pass that claims the outcome is the one that does
   pub claiming : (b : Board) (j : ℕ) (v : View) (c : Claim) → Fits q b j v → v.claim ≡ c → (c ≡ Quiet → ⊥) → (j ≡ b.claimer) × (claim_at b.stage ≡ c)
   claiming b j v c f is held = dite (ℕ_discrete j b.claimer) (λ e. (e, sym (f.claim_here e) ∙ is)) (λ n. absurd (held (sym is ∙ f.claim_else n)))
 
+  -- the words after a write to word 1
   put_second : (s : St) (r : K q s) (n : ℕ) → (length (set s.words 1 n) ≡ 2) × (get_or (set s.words 1 n) 0 0 ≡ get_or s.words 0 0) × (get_or (set s.words 1 n) 1 0 ≡ n)
   put_second s r n = let two : length s.words ≡ 2 = r.words in (length-set s.words 1 n ∙ two, get_or-set_other s.words 1 0 n 0 (λ e. omega arith), get_or-set_same s.words 1 n 0 (omega arith))
 
@@ -187,6 +183,7 @@ module _ (q : Question) where
             });
       }
 
+  -- the try to claim the outcome keeps the rule
   pub asks : (slots id : ℕ) (me : Mine) → me.0.spent ≡ false → me.0.claim ≡ Quiet → Allows (K q) slots id me 1 (λ n. either (eqb n 0) 1 n) (asked (step slots 1 0 1 none) me)
   asks slots id me alive calm s r wide at small =
       let b : Board = r.board in
@@ -214,6 +211,7 @@ module _ (q : Question) where
         (refl, (λ hit. absurd (miss hit)), λ _. refl),
       ))
 
+  -- the empty slot goes out
   pub holds_up : (slots id : ℕ) (me : Mine) → slots ≡ 2 → me.0.spent ≡ false → me.0.claim ≡ Claimed → Allows (K q) slots id me 1 (λ n. n) (held_up (step slots 1 0 0 none) me)
   holds_up slots id me two alive is s r wide at small =
       let b : Board = r.board in
@@ -233,14 +231,17 @@ module _ (q : Question) where
         (refl, refl),
       )
 
+  -- an outcome that a pass may post is right once it is put
   right_after : (v : View) (b : Board) (o : Outcome) → v.question ≡ q → MayPost v o → IsRightOutcome q (alarm_after o b.alarmed) o
   right_after v b (Verdict x) e may = subst (λ (z : Question). IsRight z.formula.problem z.assumptions x) e may
   right_after v b Halted e may = refl
 
+  -- only the first pass can be alarmed by what it puts
   alarm_else : (v : View) (b : Board) (id : ℕ) (o : Outcome) → Fits q b id v → MayPost v o → id ≢ 0 → (alarm_after o v.alarmed ≡ false) × (alarm_after o b.alarmed ≡ b.alarmed)
   alarm_else v b id (Verdict x) f may n = ((f.first_else n).1, refl)
   alarm_else v b id Halted f may n = absurd (n (first_is q b id v f may))
 
+  -- the slot comes home with the outcome
   pub lays : (slots id : ℕ) (me : Mine) (o : Outcome) (xs : List (ℕ × Slot)) → slots ≡ 2 → me.0.spent ≡ false → me.0.claim ≡ Lifted → me.1 ≡ (1, Some (Said o)) ∷ xs → MayPost me.0 o
       → Allows (K q) slots id me 1 (λ n. n) (laid (step slots 1 0 0 none) me)
   lays slots id me o xs two alive is hand may s r wide at small =
@@ -264,6 +265,7 @@ module _ (q : Question) where
         (refl, λ p e. let both : (1, Some (Said o)) ∷ xs ≡ (1, Some (Said p)) ∷ rest me.1 = sym hand ∙ e in let same : o ≡ p = ap (outcome_in Halted) both in ap (λ x. with_outcome x me.0) same),
       )
 
+  -- the outcome is posted
   pub shows : (slots id : ℕ) (me : Mine) → me.0.spent ≡ false → me.0.claim ≡ Put → Allows (K q) slots id me 1 (λ _. 2) (λ _. shown (step slots 1 2 0 none) me 2)
   shows slots id me alive is s r wide at small =
       let b : Board = r.board in
@@ -281,6 +283,7 @@ module _ (q : Question) where
         (refl, refl),
       )
 
+  -- a look keeps the rule
   pub glances : (slots id : ℕ) (me : Mine) → Allows (K q) slots id me 1 (λ n. n) (looked (step slots 1 0 0 none) me)
   glances slots id me s r wide at small =
       let b : Board = r.board in
@@ -305,137 +308,3 @@ module _ (q : Question) where
             (put_second s r n),
         (refl, (λ over. absurd (not over)), λ _. (not_true me.0.posted (λ h. not (r.stage_is ∙ end_stage b.stage (f.posted h))), refl)),
       ))
-
-  -- where every other pass was joined, the turn of the first pass is the only one, and so is its claim
-  alone : (s : St) (r : K q s) (id : ℕ) (v : View) (at : get_elem? s.views id ≡ some v) → v.first ≡ true → v.splits ≡ v.joins → (j : ℕ) (u : View) → get_elem? s.views j ≡ some u → j ≢ id → u.spent ≡ true
-  alone s r id v at first even j u e off = go u.spent refl
-    where
-      go : (t : Bool) → u.spent ≡ t → u.spent ≡ true
-      go true is = is
-      go false is =
-          let f = r.each id v at in
-          let mine = f.first_here (first_is q r.board id v f first) in
-          let two = live_two s.views j id u v off e at is mine.1 in
-          let c = r.counted in
-          let p : r.board.splits ≡ r.board.joins = sym mine.3 ∙ even ∙ mine.4 in
-          absurd (omega arith)
-
-  all_free : (s : St) (r : K q s) (id : ℕ) (v : View) → get_elem? s.views id ≡ some v → v.first ≡ true → v.splits ≡ v.joins → v.turn ≡ Free → r.board.turn ≡ Free
-  all_free s r id v at first even free =
-      let h = there s.views r.board.holder r.holder in
-      let g = r.each r.board.holder h.0 h.1 in
-      dite (ℕ_discrete r.board.holder id)
-      (λ same. let f = r.each id v at in sym (f.turn_here (sym same)) ∙ free)
-      (λ off. sym (g.turn_here refl) ∙ (g.resting (alone s r id v at first even r.board.holder h.0 h.1 off)).0)
-
-  all_quiet : (s : St) (r : K q s) (id : ℕ) (v : View) → get_elem? s.views id ≡ some v → v.first ≡ true → v.splits ≡ v.joins → v.claim ≡ Quiet → claim_at r.board.stage ≡ Quiet
-  all_quiet s r id v at first even calm =
-      let h = there s.views r.board.claimer r.claimer in
-      let g = r.each r.board.claimer h.0 h.1 in
-      dite (ℕ_discrete r.board.claimer id)
-      (λ same. let f = r.each id v at in sym (f.claim_here (sym same)) ∙ calm)
-      (λ off. sym (g.claim_here refl) ∙ (g.resting (alone s r id v at first even r.board.claimer h.0 h.1 off)).1)
-
-  free_word : (t : Phase) (log : List Shared) → turn_word t ≡ 0 → store_home log t ≡ some (Some (Stored log))
-  free_word Free log e = refl
-  free_word Rattle.share_turn.specs.declared.view.Phase.TheVariants.Won log e = refl
-  free_word (Rattle.share_turn.specs.declared.view.Phase.TheVariants.Away h) log e = absurd (omega arith)
-  free_word (Rattle.share_turn.specs.declared.view.Phase.TheVariants.Out h) log e = absurd (omega arith)
-  free_word (Rattle.share_turn.specs.declared.view.Phase.TheVariants.Back h) log e = refl
-
-  posted_home : (t : Stage) (a : Bool) → stage_word t ≡ 2 → RightAt q a t → (o : Outcome) × (outcome_home t ≡ some (Some (Said o))) × IsRightOutcome q a o
-  posted_home quiet a e r = absurd (omega arith)
-  posted_home claimed a e r = absurd (omega arith)
-  posted_home raised a e r = absurd (omega arith)
-  posted_home (put o) a e r = absurd (omega arith)
-  posted_home (posted o) a e r = (o, refl, r)
-
-  module _ (id : ℕ) (v : View) (ws : List ℕ) (xs : List Slot) (end : Final (Seen (K q) id v) ws xs) (first : v.first ≡ true) where
-    pub ends_store : get_elem? ws 0 ≡ some 0 → (log : List Shared) × (get_elem? xs 0 ≡ some (Some (Stored log))) × IsLegalFor v.question log × StartsWith log v.seen
-    ends_store word =
-        let s : St = end.0 in
-        let r : K q s = end.1.0 in
-        let b : Board = r.board in
-        let f = r.each id v end.1.1 in
-        let mine = f.first_here (first_is q b id v f first) in
-        let a = f.about mine.1 in
-        let zero_th : turn_word b.turn ≡ 0 = sym r.turn_is ∙ ap (λ (l : List ℕ). get_or l 0 0) end.2 ∙ index_of ws 0 0 word in
-        (b.log, end.4 0 (Some (Stored b.log)) (r.store_is ∙ ap (λ h. some h) (free_word b.turn b.log zero_th)), subst (λ (z : Question). IsLegalFor z b.log) (sym a) r.legal, f.seen)
-
-    pub ends_free : v.splits ≡ v.joins → v.turn ≡ Free → (n : ℕ) → get_elem? ws 0 ≡ some n → n ≡ 0
-    ends_free even free n word =
-        let s : St = end.0 in
-        let r : K q s = end.1.0 in
-        sym (index_of ws 0 n word) ∙ ap (λ (l : List ℕ). get_or l 0 0) (sym end.2) ∙ r.turn_is ∙ ap turn_word (all_free s r id v end.1.1 first even free)
-
-    pub ends_outcome : get_elem? ws 1 ≡ some 2 → (o : Outcome) × (get_elem? xs 1 ≡ some (Some (Said o))) × IsRightOutcome v.question v.alarmed o
-    ends_outcome word =
-        let s : St = end.0 in
-        let r : K q s = end.1.0 in
-        let b : Board = r.board in
-        let f = r.each id v end.1.1 in
-        let mine = f.first_here (first_is q b id v f first) in
-        let a = f.about mine.1 in
-        let two : stage_word b.stage ≡ 2 = sym r.stage_is ∙ ap (λ (l : List ℕ). get_or l 1 0) end.2 ∙ index_of ws 1 2 word in
-        let p = posted_home b.stage b.alarmed two r.right in
-        (p.0, end.4 1 (Some (Said p.0)) (r.outcome_is ∙ ap (λ h. some h) p.1), subst (λ (z : Question × Bool). IsRightOutcome z.0 z.1 p.0) (λ i. (sym a i, sym mine.2 i)) p.2)
-
-    pub ends_posted : v.posted ≡ true → (n : ℕ) → get_elem? ws 1 ≡ some n → n ≡ 2
-    ends_posted h n word =
-        let s : St = end.0 in
-        let r : K q s = end.1.0 in
-        sym (index_of ws 1 n word) ∙ ap (λ (l : List ℕ). get_or l 1 0) (sym end.2) ∙ r.stage_is ∙ end_stage r.board.stage ((r.each id v end.1.1).posted h)
-
-    pub ends_late : v.splits ≡ v.joins → v.claim ≡ Quiet → v.late ≡ true → (n : ℕ) → get_elem? ws 1 ≡ some n → n ≡ 2
-    ends_late even calm h n word =
-        let s : St = end.0 in
-        let r : K q s = end.1.0 in
-        sym (index_of ws 1 n word) ∙ ap (λ (l : List ℕ). get_or l 1 0) (sym end.2) ∙ r.stage_is ∙ settled_end r.board.stage (all_quiet s r id v end.1.1 first even calm) ((r.each id v end.1.1).late h)
-
-    pub close_store : (o : Option (List Shared)) (turn : ℕ) (held : Slot) → ((log : List Shared) → turn ≡ 0 → held ≡ Some (Stored log) → o ≡ Some log) → (turn ≢ 0 → o ≡ None)
-        → get_elem? ws 0 ≡ some turn → get_elem? xs 0 ≡ some held → IfSome o (λ (log : List Shared). IsLegalFor v.question log × StartsWith log v.seen)
-    close_store o turn held free taken word slot = dite (ℕ_discrete turn 0)
-        (λ zero_th.
-        let e = ends_store (word ∙ ap (λ (n : ℕ). some n) zero_th) in
-        let same : held ≡ Some (Stored e.0) = some-injective held (Some (Stored e.0)) (sym slot ∙ e.1) in
-        subst (λ x. IfSome x (λ (log : List Shared). IsLegalFor v.question log × StartsWith log v.seen)) (sym (free e.0 zero_th same)) (e.2, e.3))
-        (λ not. subst (λ x. IfSome x (λ (log : List Shared). IsLegalFor v.question log × StartsWith log v.seen)) (sym (taken not)) tt)
-
-    pub close_all : (o : Option (List Shared)) (turn : ℕ) (held : Slot) → ((log : List Shared) → turn ≡ 0 → held ≡ Some (Stored log) → o ≡ Some log)
-        → get_elem? ws 0 ≡ some turn → get_elem? xs 0 ≡ some held → v.turn ≡ Free → v.splits ≡ v.joins → IsSome o
-    close_all o turn held free word slot calm even =
-        let zero_th : turn ≡ 0 = ends_free even calm turn word in
-        let e = ends_store (word ∙ ap (λ (n : ℕ). some n) zero_th) in
-        let same : held ≡ Some (Stored e.0) = some-injective held (Some (Stored e.0)) (sym slot ∙ e.1) in
-        subst (λ (x : Option (List Shared)). IsSome x) (sym (free e.0 zero_th same)) (search rules)
-
-    pub close_none : (o : Option (List Shared)) (turn : ℕ) (held : Slot) → ((log : List Shared) → turn ≡ 0 → held ≡ Some (Stored log) → o ≡ Some log)
-        → get_elem? ws 0 ≡ some turn → get_elem? xs 0 ≡ some held → v.turn ≡ Free → IfNone o (v.joins < v.splits)
-    close_none o turn held free word slot calm = dite (ℕ_discrete v.splits v.joins)
-        (λ even. if_there o (v.joins < v.splits) (close_all o turn held free word slot calm even))
-        (λ not.
-        let s : St = end.0 in
-        let r : K q s = end.1.0 in
-        let f = r.each id v end.1.1 in
-        let mine = f.first_here (first_is q r.board id v f first) in
-        let some_live = live_one s.views id v end.1.1 mine.1 in
-        let count = r.counted in
-        let splits : v.splits ≡ r.board.splits = mine.3 in
-        let joins : v.joins ≡ r.board.joins = mine.4 in
-        if_holds o (v.joins < v.splits) (omega arith))
-
-    pub close_outcome : (o : Option Outcome) (stage : ℕ) (said : Slot) → ((x : Outcome) → stage ≡ 2 → said ≡ Some (Said x) → o ≡ Some x) → (stage ≢ 2 → o ≡ None)
-        → get_elem? ws 1 ≡ some stage → get_elem? xs 1 ≡ some said → IfSome o (λ x. IsRightOutcome v.question v.alarmed x)
-    close_outcome o stage said ended not_ended word slot = dite (ℕ_discrete stage 2)
-        (λ two.
-        let e = ends_outcome (word ∙ ap (λ (n : ℕ). some n) two) in
-        let same : said ≡ Some (Said e.0) = some-injective said (Some (Said e.0)) (sym slot ∙ e.1) in
-        subst (λ x. IfSome x (λ y. IsRightOutcome v.question v.alarmed y)) (sym (ended e.0 two same)) e.2)
-        (λ not. subst (λ x. IfSome x (λ y. IsRightOutcome v.question v.alarmed y)) (sym (not_ended not)) tt)
-
-    pub close_ended : (o : Option Outcome) (stage : ℕ) (said : Slot) → ((x : Outcome) → stage ≡ 2 → said ≡ Some (Said x) → o ≡ Some x)
-        → get_elem? ws 1 ≡ some stage → get_elem? xs 1 ≡ some said → stage ≡ 2 → IsSome o
-    close_ended o stage said ended word slot two =
-        let e = ends_outcome (word ∙ ap (λ (n : ℕ). some n) two) in
-        let same : said ≡ Some (Said e.0) = some-injective said (Some (Said e.0)) (sym slot ∙ e.1) in
-        subst (λ (x : Option Outcome). IsSome x) (sym (ended e.0 two same)) (search rules)
