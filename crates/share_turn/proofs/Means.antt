@@ -1,28 +1,24 @@
 -- `HasBoard` says each sentence of `KeepsTurns`.
-use Rattle.std.proofs.Common.{◌≡◌, ◌≢◌, ◌⊎◌, ℕ, zero, suc, ◌+◌, ◌<◌, ◌≤◌, Bool, true, false, true≢false, List, [], ◌∷◌, length, get_or, Some, None, Option, refl, sym, ap, ◌∙◌, subst, ⊎_elim, inl, inr, arith}
+use Rattle.std.proofs.Common.{◌≡◌, ◌≢◌, ◌⊎◌, ℕ, ◌+◌, ◌<◌, ◌≤◌, Bool, false, true≢false, List, length, Some, refl, sym, ap, ◌∙◌, subst, ⊎_elim, inl, inr, arith}
 use mathlib.Core.Logic.{dite}
 use mathlib.Core.Option.{some, none}
 use mathlib.Core.Option as maybe
 use native.Mathlib.Decide.{ℕ_discrete}
-use lib.ListN.{get_elem?}
-use Rattle.atomic_table.specs.Table.{State}
-use Rattle.share_turn.specs.declared.held.Held.{Held}
 use Rattle.share_turn.specs.declared.held.Held.TheVariants.{Stored, Said}
 use Rattle.share_turn.specs.declared.held.Outcome.{Outcome}
 use Rattle.share_turn.specs.declared.view.View.{View}
 use Rattle.share_turn.specs.declared.view.Question.{Question}
 use Rattle.share_turn.specs.declared.view.Phase.{Phase}
 use Rattle.share_turn.specs.declared.view.Phase.TheVariants.{Free, Won, Away, Out, Back}
-use Rattle.share_turn.specs.declared.view.Claim.{Claim}
 use Rattle.share_turn.specs.declared.view.Claim.TheVariants.{Quiet, Claimed, Lifted, Put}
 use Rattle.sat_lits.specs.declared.shared.Shared.{Shared}
 use Rattle.share_store.specs.Log.{StartsWith}
 use Rattle.share_turn.specs.Views.{IsLegalFor, IsRightOutcome}
-use Rattle.share_turn.specs.Board.{Slot, RightAt, live, Board, Fits, HasBoard, Stage, quiet, claimed, raised, put, posted, rank, stage_word, claim_at, outcome_home, turn_word, store_home, PhaseOf}
+use Rattle.share_turn.specs.Board.{RightAt, live, Board, Fits, HasBoard, Stage, quiet, claimed, raised, put, posted, rank, stage_word, claim_at, outcome_home, turn_word, store_home, PhaseOf}
 use Rattle.share_turn.specs.Rule.{IsLive, HasOut, KeepsTurns}
 use Rattle.share_turn.proofs.Fronts.{there}
 use Rattle.share_turn.proofs.TurnSteps.{St, word_free, holding, away_free, out_free, back_free, first_is}
-use Rattle.share_turn.proofs.OutcomeSteps.{not_true, claiming, stage_free, at_put, lifted_quiet, put_quiet, end_stage}
+use Rattle.share_turn.proofs.OutcomeSteps.{not_true, claiming, stage_free, lifted_quiet, put_quiet}
 
 -- word 0 is 0 or 1
 word_cases : (t : Phase) → (turn_word t ≡ 0) ⊎ (turn_word t ≡ 1)

@@ -1,30 +1,25 @@
 -- Each step on the outcome keeps the rule.
-use Rattle.std.proofs.Common.{◌≡◌, ◌≢◌, ◌⊎◌, ℕ, zero, suc, ◌+◌, ◌<◌, ◌≤◌, eqb, Bool, true, false, true≢false, List, [], ◌∷◌, ◌++◌, length, get_or, set, Some, None, Option, refl, sym, ap, ◌∙◌, subst, ⊎_elim, inl, inr, arith, length-set, get_or-set_other, get_or-set_same, IfSome, IfNone, IsSome, rules}
+use Rattle.std.proofs.Common.{◌≡◌, ◌≢◌, ◌⊎◌, ℕ, ◌+◌, ◌<◌, ◌≤◌, eqb, Bool, true, false, true≢false, List, [], ◌∷◌, length, get_or, set, Some, None, refl, sym, ap, ◌∙◌, subst, ⊎_elim, inl, inr, arith, length-set, get_or-set_other, get_or-set_same}
 use mathlib.Core.Logic.{dite}
 use mathlib.Core.Option.{some, none, some-injective}
 use mathlib.Core.Option as maybe
 use native.Mathlib.Decide.{ℕ_discrete}
 use lib.ListN.{get_elem?}
 use prog.Atomic.{either}
-use Rattle.atomic_table.specs.Table.{State, Me, Act, step, keeps, takes, gives, stepped, Valid, carried_after, Allows, Final, Seen, rest}
+use Rattle.atomic_table.specs.Table.{Act, step, keeps, takes, gives, stepped, Valid, carried_after, Allows, rest}
 use Rattle.atomic_table.proofs.Lists.{set_here, set_else, exchanged}
-use Rattle.share_turn.specs.declared.held.Held.{Held}
 use Rattle.share_turn.specs.declared.held.Held.TheVariants.{Stored, Said}
 use Rattle.share_turn.specs.declared.held.Outcome.{Outcome}
 use Rattle.share_turn.specs.declared.held.Outcome.TheVariants.{Verdict, Halted}
 use Rattle.share_turn.specs.declared.view.View.{View}
 use Rattle.share_turn.specs.declared.view.Question.{Question}
-use Rattle.share_turn.specs.declared.view.Phase.{Phase}
-use Rattle.share_turn.specs.declared.view.Phase.TheVariants.{Free}
 use Rattle.share_turn.specs.declared.view.Claim.{Claim}
 use Rattle.share_turn.specs.declared.view.Claim.TheVariants.{Quiet, Claimed, Lifted, Put}
 use Rattle.sat_lits.specs.Verdicts.{IsRight}
-use Rattle.sat_lits.specs.declared.shared.Shared.{Shared}
-use Rattle.share_store.specs.Log.{StartsWith}
-use Rattle.share_turn.specs.Views.{IsLegalFor, IsRightOutcome, at_claim, came_late, alarm_after, with_outcome, has_posted, saw_none, saw_end, MayPost}
-use Rattle.share_turn.specs.Board.{Slot, Board, Fits, HasBoard, Stage, quiet, claimed, raised, put, posted, rank, stage_word, claim_at, outcome_home, RightAt, turn_word, store_home, live}
+use Rattle.share_turn.specs.Views.{IsRightOutcome, at_claim, came_late, alarm_after, with_outcome, has_posted, saw_none, saw_end, MayPost}
+use Rattle.share_turn.specs.Board.{Slot, Board, Fits, Stage, quiet, claimed, raised, put, posted, rank, stage_word, claim_at, outcome_home, RightAt}
 use Rattle.share_turn.specs.Steps.{Mine, asked, held_up, laid, shown, looked}
-use Rattle.share_turn.proofs.Fronts.{each_set, inside, live_same, live_one, live_two, there, index_of}
+use Rattle.share_turn.proofs.Fronts.{each_set, inside, live_same}
 use Rattle.share_turn.proofs.TurnSteps.{St, K, stays, first_is}
 
 -- word 1 is 0 only where nobody claimed the outcome

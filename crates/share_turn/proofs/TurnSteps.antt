@@ -1,5 +1,5 @@
 -- Each step on the turn keeps the rule.
-use Rattle.std.proofs.Common.{◌≡◌, ◌≢◌, ◌⊎◌, ℕ, zero, suc, ◌+◌, ◌<◌, ◌≤◌, eqb, Bool, true, false, true≢false, ◌||◌, if◌then◌else◌, List, [], ◌∷◌, ◌++◌, length, get_or, set, replicate, Some, None, Option, refl, sym, ap, ◌∙◌, subst, ⊎_elim, inl, inr, arith, length-set, length-append, get_or-set_other, get_or-set_same}
+use Rattle.std.proofs.Common.{◌≡◌, ◌≢◌, ◌⊎◌, ℕ, zero, suc, ◌+◌, ◌<◌, eqb, Bool, true, false, true≢false, ◌||◌, if◌then◌else◌, List, [], ◌∷◌, ◌++◌, length, get_or, set, replicate, Some, None, refl, sym, ap, ◌∙◌, subst, ⊎_elim, inl, inr, arith, length-set, length-append, get_or-set_other, get_or-set_same}
 use mathlib.Core.Logic.{dite}
 use mathlib.Core.Option.{some, none, some-ne-none, some-injective}
 use mathlib.Core.Option as maybe
@@ -8,18 +8,17 @@ use lib.ListN.{get_elem?}
 use prog.Atomic.{either}
 use Rattle.atomic_table.specs.Table.{State, Me, step, keeps, takes, gives, stepped, put_back, Allows, Splits, Joins, opening, rest}
 use Rattle.atomic_table.proofs.Lists.{at_set, set_here, set_else, exchanged}
-use Rattle.share_turn.specs.declared.held.Held.{Held}
 use Rattle.share_turn.specs.declared.held.Held.TheVariants.{Stored, Said}
 use Rattle.share_turn.specs.declared.view.View.{View}
 use Rattle.share_turn.specs.declared.view.Question.{Question}
 use Rattle.share_turn.specs.declared.view.Phase.{Phase}
 use Rattle.share_turn.specs.declared.view.Phase.TheVariants.{Free, Won, Away, Out, Back}
-use Rattle.share_turn.specs.declared.view.Claim.TheVariants.{Quiet, Claimed, Lifted, Put}
+use Rattle.share_turn.specs.declared.view.Claim.TheVariants.{Quiet}
 use Rattle.sat_lits.specs.declared.shared.Shared.{Shared}
 use Rattle.share_store.specs.Log.{StartsWith}
 use Rattle.share_store.specs.Laws.{starts_refl, starts_trans, starts_none}
-use Rattle.share_turn.specs.Views.{IsLegalFor, at_turn, opening_view, newcomer, divided, united, heard_of, longer, won, lost, freed}
-use Rattle.share_turn.specs.Board.{Slot, Board, Fits, HasBoard, Stage, quiet, turn_word, store_home, PhaseOf, live}
+use Rattle.share_turn.specs.Views.{IsLegalFor, at_turn, opening_view, newcomer, divided, united, heard_of, won, lost, freed}
+use Rattle.share_turn.specs.Board.{Slot, Board, Fits, HasBoard, quiet, turn_word, store_home, PhaseOf}
 use Rattle.share_turn.specs.Steps.{Mine, settled, gone, tried, lifted, emptied, reached, landed, released, heard}
 use Rattle.share_turn.specs.Laws.{none_is_legal}
 use Rattle.share_turn.proofs.Fronts.{longer_both, inside, at_end, each_set, weight, live_set, live_same, live_end}

@@ -1,6 +1,5 @@
 -- What the calls answer, and what the view is then.
-use Rattle.std.specs.Prelude.{◌≡◌, List, false}
-use Rattle.sat_lits.specs.declared.shared.Shared.{Shared}
+use Rattle.std.specs.Prelude.{◌≡◌, false}
 use Rattle.share_store.specs.Log.{StartsWith}
 use Rattle.share_turn.specs.declared.view.View.{View}
 use Rattle.share_turn.specs.declared.held.Outcome.{Outcome}

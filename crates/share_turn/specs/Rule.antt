@@ -46,37 +46,28 @@ HasRightOutcome q s o = (get_elem? s.homes 1 ≡ some (some (Some (Said o)))) ×
 pub record KeepsTurns (q : Question) (s : Moment) : Type 0 where
   -- all passes have one formula, one list of assumptions and one number of solvers
   pub one_question : EachLive s (λ j v. v.question ≡ q)
-
   -- word 0 is 0 where no pass has the turn, and 1 where exactly one has it
   pub turn_word : (slice_index s.words 0 ≡ 0) ⊎ (slice_index s.words 0 ≡ 1)
   pub turn_free : slice_index s.words 0 ≡ 0 → EachLive s (λ j v. v.turn ≡ Free)
   pub turn_held : slice_index s.words 0 ≡ 1 → OnlyOne s (λ v. v.turn ≢ Free)
-
   -- where no pass has the store out, it is at home, and its log is legal and begins with all that was seen
   pub store_home : EachLive s (λ j v. (h : List Shared) → HasOut v.turn h → ⊥)
       → (log : List Shared) × IsHome s log × IsLegalFor q log × EachLive s (λ j v. StartsWith log v.seen) × EachLive s (λ j v. (h : List Shared) → v.turn ≡ Back h → h ≡ log)
-
   -- where a pass has it out, it is not at home, and its log was legal and began with all that was seen
   pub store_out : EachLive s (λ j v. (h : List Shared) → HasOut v.turn h → IsLegalFor q h × EachLive s (λ i u. StartsWith h u.seen) × ((log : List Shared) → IsHome s log → ⊥))
-
   -- word 1 is 0 while nobody claims the outcome or knows of one
   pub outcome_word : (slice_index s.words 1 ≡ 0) ⊎ (slice_index s.words 1 ≡ 1) ⊎ (slice_index s.words 1 ≡ 2)
   pub outcome_none : slice_index s.words 1 ≡ 0 → EachLive s (λ j v. (v.claim ≡ Quiet) × (v.late ≡ false) × (v.posted ≡ false) × (v.alarmed ≡ false))
-
   -- it is 1 while exactly one pass claims the outcome and none knows of a posted one; an alarmed pass has put it
   pub outcome_claimed : slice_index s.words 1 ≡ 1 → OnlyOne s (λ v. v.claim ≢ Quiet) × EachLive s (λ j v. v.posted ≡ false) × EachLive s (λ j v. v.alarmed ≡ true → v.claim ≡ Put)
-
   -- it is 2 once an outcome was posted, and then nobody claims it
   pub outcome_posted : slice_index s.words 1 ≡ 2 → EachLive s (λ j v. v.claim ≡ Quiet)
-
   -- an outcome that was put or posted is right
   pub outcome_right : (slice_index s.words 1 ≡ 2) ⊎ ((j : ℕ) × (v : View) × IsLive s j v × (v.claim ≡ Put)) → (o : Outcome) × HasRightOutcome q s o
-
   -- exactly one pass is the first, it alone may be alarmed, and it has split off as many as it joined and as there are others
   pub one_first : OnlyOne s (λ v. v.first ≡ true)
   pub counted : EachLive s (λ i w. w.first ≡ true → live s.views + w.joins ≡ 1 + w.splits)
   pub alarm_first : EachLive s (λ j v. v.alarmed ≡ true → v.first ≡ true)
-
   -- a slot is away from its place exactly while some pass has it in hand
   pub store_away : get_elem? s.homes 0 ≡ some none → (j : ℕ) × (v : View) × (h : List Shared) × IsLive s j v × (v.turn ≡ Away h)
   pub store_in_hand : EachLive s (λ j v. (h : List Shared) → v.turn ≡ Away h → get_elem? s.homes 0 ≡ some none)

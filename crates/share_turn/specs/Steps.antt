@@ -1,5 +1,5 @@
 -- What each kind of step tells the pass that makes it.
-use Rattle.std.specs.Prelude.{◌≡◌, ◌≢◌, ℕ, Bool, true, false, List, [], ◌∷◌, Option, Some, None}
+use Rattle.std.specs.Prelude.{◌≡◌, ◌≢◌, ℕ, true, false, List, [], ◌∷◌, Some, None}
 use Rattle.atomic_table.specs.Table.{Me, Step, rest}
 use Rattle.sat_lits.specs.Formulas.{Bounded}
 use Rattle.sat_lits.specs.declared.shared.Shared.{Shared}

@@ -77,7 +77,8 @@ impl<'a> Solver<'a> {
         let Turn::Got(mut store) = self.exchange.take(&mut self.pass) else {
             return;
         };
-        self.in_order = self.in_order && own_entries(&store, self.number, self.seen) == self.own_entries;
+        self.in_order = self.in_order
+            && own_entries(&store, self.number, self.seen) == self.own_entries;
         add(&self.pass, &mut store, self.number, 3 * self.number + turn);
         self.seen = store.len();
         self.own_entries = own_entries(&store, self.number, self.seen);
@@ -177,7 +178,11 @@ fn three_solvers_run_side_by_side(rt: HostRuntime) -> Result<(), Fail> {
     others.push(Solver::new(&exchange, third, 2))?;
     let mut first = Solver::new(&exchange, first, 0);
     let slice = others.as_mut_slice();
-    join_mut(&rt, &mut || run_all(&rt, &exchange, slice), &mut || first.run());
+    join_mut(
+        &rt,
+        &mut || run_all(&rt, &exchange, slice),
+        &mut || first.run(),
+    );
     assert!(rt; first.in_order && others.iter().all(|solver| solver.in_order));
     let entries = others.iter().fold(first.own_entries, |sum, solver| {
         sum.saturating_add(solver.own_entries)

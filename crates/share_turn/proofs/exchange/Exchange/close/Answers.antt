@@ -1,6 +1,5 @@
-use Rattle.std.proofs.Common.{◌≡◌, ◌<◌, true, IfSome, IfNone, IsSome, ap, sym, ◌∙◌, subst}
+use Rattle.std.proofs.Common.{◌<◌, IfSome, IfNone, ap, sym, ◌∙◌, subst}
 use lib.ListN.{get_elem?}
-use Rattle.share_turn.specs.declared.view.Phase.TheVariants.{Free}
 use Rattle.share_store.specs.Log.{StartsWith}
 use Rattle.share_turn.specs.Views.{Known, IsLegalFor, IsRightOutcome}
 use Rattle.share_turn.proofs.Ends.{close_store, close_all, close_none, close_outcome, close_ended, ends_posted, ends_late}

@@ -1,7 +1,5 @@
-use Rattle.std.proofs.Common.{rules, ◌≡◌, ℕ, List, ◌∷◌, false, Some, sym, ap, ◌∙◌, subst}
-use Rattle.atomic_table.specs.Table.{rest}
-use Rattle.share_turn.specs.declared.held.Held.TheVariants.{Stored}
-use Rattle.share_turn.specs.declared.view.Phase.TheVariants.{Away, Out, Back}
+use Rattle.std.proofs.Common.{rules, ◌≡◌, false, sym, ap, ◌∙◌, subst}
+use Rattle.share_turn.specs.declared.view.Phase.TheVariants.{Away, Out}
 use Rattle.share_turn.specs.declared.view.Question.{Question}
 use Rattle.share_turn.specs.Views.{IsLegalFor}
 use Rattle.share_turn.specs.Steps.{unsettled}

@@ -1,9 +1,5 @@
-use Rattle.std.proofs.Common.{rules, ◌≡◌, false, ap, sym, ◌∙◌, subst}
+use Rattle.std.proofs.Common.{rules, ap, sym, ◌∙◌, subst}
 use Rattle.atomic_table.specs.Table.{rest}
-use Rattle.share_turn.specs.declared.view.Claim.TheVariants.{Quiet, Claimed, Lifted, Put}
-use Rattle.share_turn.specs.declared.view.View.{View}
-use Rattle.share_turn.specs.declared.held.Outcome.{Outcome}
-use Rattle.share_turn.specs.Views.{MayPost}
 use Rattle.share_turn.specs.Steps.{IsStill}
 use Rattle.share_turn.proofs.TurnSteps.{in_hand}
 use Rattle.share_turn.proofs.OutcomeSteps.{asks, holds_up, lays, shows, may_move}

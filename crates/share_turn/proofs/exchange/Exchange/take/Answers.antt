@@ -1,6 +1,6 @@
-use Rattle.std.proofs.Common.{rules, ◌≡◌, ◌∷◌, false, Some, sym, ap, ◌∙◌}
+use Rattle.std.proofs.Common.{rules, ◌≡◌, Some, ap, ◌∙◌}
 use Rattle.share_turn.specs.declared.held.Held.TheVariants.{Stored}
-use Rattle.share_turn.specs.declared.view.Phase.TheVariants.{Free, Won, Away}
+use Rattle.share_turn.specs.declared.view.Phase.TheVariants.{Free, Away}
 use Rattle.share_turn.proofs.TurnSteps.{tries, lifts, empties, in_hand}
 use Rattle.share_turn.proofs.exchange.Exchange.take.Goals as goal
 

@@ -1,4 +1,3 @@
-use Rattle.std.proofs.Common.{◌≡◌}
 use Rattle.share_store.specs.Log.{StartsWith}
 use Rattle.share_turn.specs.Views.{IsLegalFor}
 use Rattle.share_turn.proofs.Offers.{still_legal}
