@@ -43,6 +43,7 @@ IsHome s log = get_elem? s.homes 0 ≡ some (some (Some (Stored log)))
 abbrev pub HasRightOutcome : Question → Moment → Outcome → Type 0
 HasRightOutcome q s o = (get_elem? s.homes 1 ≡ some (some (Some (Said o)))) × EachLive s (λ i w. w.first ≡ true → IsRightOutcome q w.alarmed o)
 
+-- the rule at one moment
 pub record KeepsTurns (q : Question) (s : Moment) : Type 0 where
   -- all passes have one formula, one list of assumptions and one number of solvers
   pub one_question : EachLive s (λ j v. v.question ≡ q)
@@ -64,7 +65,7 @@ pub record KeepsTurns (q : Question) (s : Moment) : Type 0 where
   pub outcome_posted : slice_index s.words 1 ≡ 2 → EachLive s (λ j v. v.claim ≡ Quiet)
   -- an outcome that was put or posted is right
   pub outcome_right : (slice_index s.words 1 ≡ 2) ⊎ ((j : ℕ) × (v : View) × IsLive s j v × (v.claim ≡ Put)) → (o : Outcome) × HasRightOutcome q s o
-  -- exactly one pass is the first, it alone may be alarmed, and it has split off as many as it joined and as there are others
+  -- exactly one pass is the first, the passes that it split off are those that it joined and the others that are there, and it alone may be alarmed
   pub one_first : OnlyOne s (λ v. v.first ≡ true)
   pub counted : EachLive s (λ i w. w.first ≡ true → live s.views + w.joins ≡ 1 + w.splits)
   pub alarm_first : EachLive s (λ j v. v.alarmed ≡ true → v.first ≡ true)

@@ -139,6 +139,7 @@ fn two_threads_take_three_turns_each(rt: HostRuntime) -> Result<(), Fail> {
     let closed = exchange.close(first);
     assert!(rt; closed.outcome.is_none());
     let store = closed.store.ok_or("the store is at home")?;
+    assert!(rt; entries > 0, "the first try wins");
     assert_eq!(rt; store.len(), entries);
     Ok(())
 }
@@ -191,6 +192,7 @@ fn three_solvers_run_side_by_side(rt: HostRuntime) -> Result<(), Fail> {
     join_all(&exchange, &mut first, others);
     let closed = exchange.close(first);
     let store = closed.store.ok_or("the store is at home")?;
+    assert!(rt; entries > 0, "the first try wins");
     assert_eq!(rt; store.len(), entries);
     Ok(())
 }
