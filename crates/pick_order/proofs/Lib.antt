@@ -1,0 +1,4 @@
+pub mod Matches
+pub mod Taking
+pub mod Queueing
+pub mod Raising

@@ -1,0 +1,314 @@
+ghost use Rattle.std.specs.Prelude.{◌≡◌, ◌↔◌, ℕ, ◌+◌, ◌/◌, ◌^◌, ◌<◌, ◌≤◌, [], false, not, nat_lt, map, length, IsTrue, IsSome, IsNone, IfSome, OnOk, OnErr, IfOk, is_some, slice_set, if◌then◌else◌, vec_capacity, option_map};
+ghost use Rattle.std.specs.List.{list_all};
+ghost use Rattle.trail.specs.Trail.{set_in};
+ghost use Rattle.pick_order.specs.Tournaments.{IsFirst, entrant};
+ghost use Rattle.pick_order.specs.Preferences.{IsPick, AllSet, IsLimited, activity_in, fits_in, preference_in, candidate_in, prepared, raised, bumped, with_phase, half_preference};
+ghost use Rattle.pick_order.specs.Queues.{IsQueued, IsCarried};
+
+use crate::preference::{Candidate, Preference};
+use crate::tournament::Tournament;
+use sat_lits::{InLit, Inner, NoMemory};
+use std::alloc::Global;
+use std::marker::Model;
+use trail::Trail;
+
+#[cfg(test)]
+mod tests;
+
+/// The greatest activity.
+const LIMIT: u64 = 1 << 62;
+
+/// The least increment. Each bump raises the increment by one in so many.
+const GROWTH: u64 = 4096;
+
+/// The active variables, each with an activity and a phase, in the order in which they are decided.
+#[derive(Debug, Drop)]
+pub struct PickOrder {
+    // By variable, what is known of it where it is active.
+    preferences: Vec<Option<Preference>>,
+    // The candidates for the next decision, by variable.
+    tournament: Tournament,
+    // The variables that are no candidates because a trail had set them. Room for each.
+    passed: Vec<Inner>,
+    // What the next bump adds to an activity.
+    increment: u64,
+}
+
+impl Model for PickOrder {
+    ghost use Rattle.std.specs.Prelude.{List, Option};
+    ghost use Rattle.pick_order.specs.declared.preference.Preference.{Preference};
+
+    ghost Value = { List (Option Preference) };
+
+    ghost use Rattle.pick_order.specs.Inside.{order_of, IsOrdered};
+
+    ghost view = { order_of };
+
+    ghost invariant = { IsOrdered };
+}
+
+impl PickOrder {
+    /// An order with no active variable. It takes no memory.
+    pub fn new(alloc: Global) -> PickOrder
+        ensures { result ≡ [] }
+    {
+        PickOrder {
+            preferences: Vec::new(alloc),
+            tournament: Tournament::new(alloc),
+            passed: Vec::new(alloc),
+            increment: GROWTH,
+        }
+    }
+
+    /// Takes over the active variables, and these alone. Those that were active keep their activity
+    /// and their phase. A new one gets the activity 0 and the given phase. The only error is want of
+    /// memory, and nothing changes then.
+    pub fn prepare(&mut self, active: &[Inner], phase: bool) -> Result<(), NoMemory>
+        ensures ok { OnOk result ((v : ℕ) → preference_in self.new v ≡ prepared active.now phase self.old v) }
+        ensures err { OnErr result (self.new ≡ self.old) }
+    {
+        let alloc = *self.passed.allocator();
+        let preferences = take_over(alloc, active, phase, &self.preferences)?;
+        let tournament = Tournament::over(alloc, &preferences)?;
+        let passed = Vec::with_capacity(alloc, preferences.len())?;
+        *self = PickOrder {
+            preferences,
+            tournament,
+            passed,
+            increment: self.increment,
+        };
+        Ok(())
+    }
+
+    /// The active variable that a trail leaves unset and that has the greatest activity, the least
+    /// number where several have it, as a literal with its phase. None exactly where every active
+    /// variable is set.
+    pub fn next(&mut self, trail: &Trail) -> Option<InLit>
+        ensures none { IsNone result ↔ AllSet self.old trail.now.steps }
+        ensures some { IfSome result (λ l. (p : Preference) × IsPick self.old trail.now.steps l p) }
+        ensures same { self.new ≡ self.old }
+    {
+        put_back(
+            &mut self.tournament,
+            &mut self.passed,
+            &self.preferences,
+            trail,
+        );
+        let first = pass_over(
+            &mut self.tournament,
+            &mut self.passed,
+            &self.preferences,
+            trail,
+        )?;
+        let preference = self.preferences[first.var.0 as usize].unwrap();
+        Some(InLit {
+            var: first.var,
+            negative: !preference.phase,
+        })
+    }
+
+    /// Raises the activity of an active variable by an increment, and no other. Where it would pass
+    /// 2^62, all activities and the increment are halved first, rounded down.
+    pub fn bump(&mut self, var: Inner)
+        requires { IsSome (preference_in self.old var.0) }
+        ensures { (by : ℕ) × (2 ≤ by) × (self.new ≡ bumped var.0 by self.old) }
+    {
+        let by = make_room(
+            &mut self.preferences,
+            &mut self.tournament,
+            var,
+            self.increment,
+        );
+        raise(&mut self.preferences, &mut self.tournament, var, by);
+        self.increment = (by + by / GROWTH).clamp(GROWTH, LIMIT);
+    }
+
+    /// The phase of an active variable becomes the sign of a literal.
+    pub fn keep_phase(&mut self, lit: InLit)
+        requires { IsSome (preference_in self.old lit.var.0) }
+        ensures { self.new ≡ with_phase lit.var.0 (not lit.negative) self.old }
+    {
+        let place = lit.var.0 as usize;
+        let preference = self.preferences[place].unwrap();
+        self.preferences[place] = Some(Preference {
+            activity: preference.activity,
+            phase: !lit.negative,
+        });
+    }
+
+    /// What is known of a variable, or None exactly where it is not active. No activity is above
+    /// 2^62.
+    pub fn preference_of(&self, var: Inner) -> Option<Preference>
+        ensures value { result ≡ preference_in self.now var.0 }
+        ensures limit { IsLimited self.now }
+    {
+        known_of(&self.preferences, var)
+    }
+}
+
+/// The active variables with what was known of them, or what is said of new ones.
+fn take_over(
+    alloc: Global,
+    active: &[Inner],
+    phase: bool,
+    known: &[Option<Preference>],
+) -> Result<Vec<Option<Preference>>, NoMemory>
+    requires { IsLimited known.now }
+    ensures taken { IfOk result (λ xs. (v : ℕ) → preference_in xs.items v ≡ prepared active.now phase known.now v) }
+    ensures limit { IfOk result (λ xs. IsLimited xs.items) }
+    ensures numbers { IfOk result (λ xs. length xs.items ≤ 2 ^ 32) }
+{
+    let mut taken = Vec::new(alloc);
+    taken.resize(number_above(active), None)?;
+    for var in active {
+        let new = Preference { activity: 0, phase };
+        let preference = known_of(known, *var).unwrap_or(new);
+        taken[var.0 as usize] = Some(preference);
+    }
+    Ok(taken)
+}
+
+/// What is known of a variable, if it is active.
+fn known_of(preferences: &[Option<Preference>], var: Inner) -> Option<Preference>
+    ensures { result ≡ preference_in preferences.now var.0 }
+{
+    let place = var.0 as usize;
+    if place < preferences.len() {
+        preferences[place]
+    } else {
+        None
+    }
+}
+
+/// A variable as a candidate, if it is active.
+fn candidate_of(preferences: &[Option<Preference>], var: Inner) -> Option<Candidate>
+    ensures { result ≡ candidate_in preferences.now var.0 }
+{
+    let activity = known_of(preferences, var)?.activity;
+    Some(Candidate { activity, var })
+}
+
+/// The least number above those of all variables.
+fn number_above(vars: &[Inner]) -> usize
+    ensures above { IsTrue (list_all (λ a. nat_lt a.0 result) vars.now) }
+    ensures limit { result ≤ 2 ^ 32 }
+{
+    let mut above = 0;
+    for var in vars {
+        above = above.max(var.0 as usize + 1);
+    }
+    above
+}
+
+/// Whether a trail sets a variable.
+fn is_set(trail: &Trail, var: Inner) -> bool
+    ensures { result ≡ set_in trail.now.steps var.0 }
+{
+    trail.level_of(var).is_some()
+}
+
+/// Makes candidates of the variables that were passed over and that a trail leaves unset.
+fn put_back(
+    tournament: &mut Tournament,
+    passed: &mut Vec<Inner>,
+    preferences: &[Option<Preference>],
+    trail: &Trail,
+)
+    requires { IsQueued preferences.now tournament.old passed.old.items (vec_capacity passed.old) }
+    ensures queued { IsQueued preferences.now tournament.new passed.new.items (vec_capacity passed.new) }
+    ensures set { IsTrue (list_all (λ a. set_in trail.now.steps a.0) passed.new.items) }
+{
+    let mut place = 0;
+    'passed: while place < passed.len() {
+        let var = passed[place];
+        if is_set(trail, var) {
+            place += 1;
+        } else {
+            passed.swap_remove(place);
+            tournament.enter(var.0 as usize, candidate_of(preferences, var));
+        }
+    }
+}
+
+/// The first candidate that a trail leaves unset. Those before it are passed over.
+fn pass_over(
+    tournament: &mut Tournament,
+    passed: &mut Vec<Inner>,
+    preferences: &[Option<Preference>],
+    trail: &Trail,
+) -> Option<Candidate>
+    requires queued { IsQueued preferences.now tournament.old passed.old.items (vec_capacity passed.old) }
+    requires set { IsTrue (list_all (λ a. set_in trail.now.steps a.0) passed.old.items) }
+    ensures queued { IsQueued preferences.now tournament.new passed.new.items (vec_capacity passed.new) }
+    ensures set { IsTrue (list_all (λ a. set_in trail.now.steps a.0) passed.new.items) }
+    ensures first { IsFirst tournament.new result }
+    ensures unset { IfSome result (λ a. set_in trail.now.steps a.var.0 ≡ false) }
+{
+    'first: while let Some(first) = tournament.first() {
+        if !is_set(trail, first.var) {
+            return Some(first);
+        }
+        tournament.enter(first.var.0 as usize, None);
+        passed.push_reserved(first.var);
+    }
+    None
+}
+
+/// Where the activity of a variable would pass the limit, halves all activities and the increment.
+/// Gives the increment that fits then.
+fn make_room(
+    preferences: &mut [Option<Preference>],
+    tournament: &mut Tournament,
+    var: Inner,
+    increment: u64,
+) -> u64
+    requires active { IsSome (preference_in preferences.old var.0) }
+    requires limit { IsLimited preferences.old }
+    requires within { increment ≤ 2 ^ 62 }
+    ensures value { result ≡ (if fits_in preferences.old var.0 increment then increment else increment / 2) }
+    ensures order { preferences.new ≡ (if fits_in preferences.old var.0 increment then preferences.old else map (option_map half_preference) preferences.old) }
+    ensures carried { IsCarried preferences.old tournament.old preferences.new tournament.new }
+    ensures limit { IsLimited preferences.new }
+    ensures room { activity_in preferences.new var.0 + result ≤ 2 ^ 62 }
+{
+    let activity = preferences[var.0 as usize].unwrap().activity;
+    if activity + increment <= LIMIT {
+        return increment;
+    }
+    halve_all(preferences);
+    tournament.halve();
+    increment / 2
+}
+
+/// Halves all activities.
+fn halve_all(preferences: &mut [Option<Preference>])
+    ensures { (v : ℕ) → preference_in preferences.new v ≡ option_map half_preference (preference_in preferences.old v) }
+{
+    for preference in preferences.iter_mut() {
+        if let Some(p) = preference {
+            p.activity /= 2;
+        }
+    }
+}
+
+/// Adds to the activity of an active variable, also where it is a candidate.
+fn raise(preferences: &mut [Option<Preference>], tournament: &mut Tournament, var: Inner, by: u64)
+    requires active { IsSome (preference_in preferences.old var.0) }
+    requires sized { length tournament.old ≡ length preferences.old }
+    requires limit { IsLimited preferences.old }
+    requires room { activity_in preferences.old var.0 + by ≤ 2 ^ 62 }
+    ensures order { preferences.new ≡ raised var.0 by preferences.old }
+    ensures carried { IsCarried preferences.old tournament.old preferences.new tournament.new }
+    ensures limit { IsLimited preferences.new }
+{
+    let place = var.0 as usize;
+    let preference = preferences[place].unwrap();
+    let activity = preference.activity + by;
+    preferences[place] = Some(Preference {
+        activity,
+        phase: preference.phase,
+    });
+    if tournament.entrant(place).is_some() {
+        tournament.enter(place, Some(Candidate { activity, var }));
+    }
+}

@@ -1,0 +1,3 @@
+pub mod TrailNumber
+pub mod NumberLaws
+pub mod FitLaws
