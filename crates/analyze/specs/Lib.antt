@@ -3,5 +3,9 @@ pub mod LearnedClauses
 pub mod FinalSets
 pub mod Quiet
 pub mod Counting
+pub mod Marking
+pub mod Inside
+pub mod Walks
+pub mod Deciding
 pub mod TrailLaws
 pub mod QuietLaws

@@ -1,7 +1,15 @@
 //! What is learned from a conflict, and which decisions make a literal false.
 #![tactic(auto)]
 
+mod analyzer;
+mod deciding;
 pub mod laws;
+mod marks;
 mod tally;
+mod walk;
 
+#[cfg(test)]
+mod tests;
+
+pub use analyzer::{Analyzer, Learned};
 pub use tally::Tally;
