@@ -3,11 +3,13 @@ use Rattle.std.specs.Prelude.{◌≡◌, ◌<◌, ◌≤◌, ◌+◌, ℕ, Bool,
 use Rattle.std.specs.List.{list_any, list_all}
 use Rattle.sat_lits.specs.InLits.{same_lit}
 use Rattle.sat_lits.specs.declared.literal.InLit.{InLit}
+use Rattle.sat_lits.specs.declared.literal.ClauseId.{ClauseId}
 use Rattle.trail.specs.declared.trail.Step.{Step}
 use Rattle.trail.specs.Trail.{level_of, shaped, back_to}
 use Rattle.clause_store.specs.Store.{Held}
-use Rattle.propagate.specs.Units.{quiet_clause, all_quiet}
-use Rattle.propagate.specs.Reasons.{reasoned}
+use Rattle.propagate.specs.Units.{false_clause, quiet_clause, all_quiet}
+use Rattle.propagate.specs.Reasons.{names, reasoned}
+use Rattle.analyze.specs.Falsity.{has_present}
 use Rattle.analyze.specs.LearnedClauses.{IsLearned, unit_by_first}
 
 -- on the way back to any level below the present one no clause is false or unit
@@ -57,3 +59,8 @@ AddingKeepsReasons = (held : List Held) (clause : Held) (steps : List Step) → 
 -- and on the way back
 abbrev pub WayBackKeepsReasons : Type 0
 WayBackKeepsReasons = (held : List Held) (steps : List Step) (level : ℕ) → shaped steps ≡ true → reasoned held steps ≡ true → reasoned held (back_to level steps) ≡ true
+
+-- a false clause holds a literal of the present level, where nothing was false or unit below it
+abbrev pub ConflictsArePresent : Type 0
+ConflictsArePresent =
+    (held : List Held) (steps : List Step) (id : ClauseId) → shaped steps ≡ true → 0 < level_of steps → QuietBelow held steps → names held id (false_clause steps) ≡ true → names held id (has_present steps) ≡ true

@@ -1,17 +1,19 @@
 -- What is learned is unit after the way back and new, and what a search keeps below its level. Every crate above may cite these facts.
-use Rattle.std.proofs.Common.{◌≡◌, ◌<◌, ◌≤◌, ◌+◌, ℕ, Bool, true, false, cond, not, eqb, leb, ◌&&◌, ◌||◌, List, [], ◌∷◌, ◌++◌, filter, refl, sym, ap, subst, ◌∙◌, ⊎_elim, arith, eq-eqb}
-use Rattle.std.proofs.lemmas.Bool.{and_parts, and_from, or_cases, or_left, or_right, eqb-true, leb-true, le-leb, false≢true, not-true, not_from_false, both_ways, false_from_ne_true, cases_lt}
+use Rattle.std.proofs.Common.{◌≡◌, ◌<◌, ◌≤◌, ◌+◌, ◌-◌, ℕ, Bool, true, false, cond, not, eqb, leb, ◌&&◌, ◌||◌, List, [], ◌∷◌, ◌++◌, Some, refl, sym, ap, subst, ◌∙◌, ⊎_elim, arith, eq-eqb}
+use Rattle.std.proofs.lemmas.Bool.{and_parts, and_from, or_cases, or_left, or_right, eqb-true, leb-true, leb-false, le-leb, false≢true, true≢false, not-true, not_from_false, both_ways, false_from_ne_true, cases_lt}
 use Rattle.std.proofs.lemmas.List.Folds.{list_all-append}
 use Rattle.std.specs.List.{list_any, list_all}
 use Rattle.sat_lits.specs.InLits.{same_lit, opposite, is_distinct}
-use Rattle.sat_lits.specs.ListLaws.{all_or_any, any_mono, all_mono}
+use Rattle.sat_lits.specs.ListLaws.{all_or_any, any_mono, all_mono, all_any_mono}
 use Rattle.sat_lits.specs.declared.literal.InLit.{InLit}
+use Rattle.sat_lits.specs.declared.literal.ClauseId.{ClauseId}
 use Rattle.trail.specs.declared.trail.Step.{Step}
 use Rattle.trail.specs.Trail.{true_in, false_in, set_in, unset_in, level_of, shaped, shaped_step, back_to}
-use Rattle.trail.specs.Laws.{back_nowhere, back_past}
-use Rattle.clause_store.specs.Store.{Held}
-use Rattle.propagate.specs.Units.{unit_by, quiet_clause, all_quiet}
-use Rattle.analyze.specs.Falsity.{false_at, false_by}
+use Rattle.trail.specs.Laws.{levels_low, back_nowhere, back_past}
+use Rattle.clause_store.specs.Store.{Held, clause_at}
+use Rattle.propagate.specs.Units.{unit_by, false_clause, quiet_clause, all_quiet}
+use Rattle.propagate.specs.Reasons.{names, passes}
+use Rattle.analyze.specs.Falsity.{false_at, false_by, has_present}
 use Rattle.analyze.specs.LearnedClauses.{IsLearned, has_each_once, unit_by_first}
 use Rattle.analyze.specs.Quiet.{QuietBelow, is_within, is_new}
 use Rattle.analyze.specs.TrailLaws.{same_var, same_lit_self, same_lit_eq, false_set, by_false, at_false, false_back, true_back, gone_unset, consistent, back_twice}
@@ -120,3 +122,50 @@ conflict_keeps held t more back s e l v q b h =
     both =
         list_all-append (λ (h : Held). quiet_clause (back_to b t) h.lits) held (more ∷ [])
         ∙ and_from _ _ old (and_from _ _ (learned_quiet held t more.lits back b e l (omega arith)) refl)
+
+-- where every clause passes one test and a named clause another, that clause passes both
+names_and : (q : Held → Bool) (p r : List InLit → Bool) (held : List Held) (id : ClauseId) → ((h : Held) → q h ≡ true → p h.lits ≡ true → r h.lits ≡ true) → list_all q held ≡ true → names held id p ≡ true → names held id r ≡ true
+names_and q p r [] id k a e = absurd (false≢true e)
+names_and q p r (h ∷ rest) id k a e =
+    let b : (q h ≡ true) × (list_all q rest ≡ true) = and_parts _ _ a in
+    go (eqb h.id id.0) e b.0 (λ (f : names rest id p ≡ true). names_and q p r rest id k b.1 f)
+  where
+    go : (x : Bool) → passes p (cond x (Some h) (clause_at rest id.0)) ≡ true → q h ≡ true → (names rest id p ≡ true → names rest id r ≡ true) → passes r (cond x (Some h) (clause_at rest id.0)) ≡ true
+    go true f g more = k h g f
+    go false f g more = more f
+
+any_without : {X : Type 0} (p q : X → Bool) (xs : List X) → list_any p xs ≡ true → list_any (λ x. p x && q x) xs ≡ false → list_any (λ x. p x && not (q x)) xs ≡ true
+any_without p q [] e f = absurd (false≢true e)
+any_without p q (x ∷ xs) e f = go (p x) (q x) e f (any_without p q xs)
+  where
+    go : (a b : Bool) → (a || list_any p xs) ≡ true → ((a && b) || list_any (λ y. p y && q y) xs) ≡ false → (list_any p xs ≡ true → list_any (λ y. p y && q y) xs ≡ false → list_any (λ y. p y && not (q y)) xs ≡ true)
+        → ((a && not b) || list_any (λ y. p y && not (q y)) xs) ≡ true
+    go true true e f r = absurd (true≢false f)
+    go true false e f r = refl
+    go false b e f r = r e f
+
+-- a false literal that the way back unsets is false by the level that it takes back
+unset_present : (t : List Step) (b : ℕ) (l : InLit) → shaped t ≡ true → b + 1 ≡ level_of t → false_in t l ≡ true → unset_in (back_to b t) l ≡ true → false_at t (level_of t) l ≡ true
+unset_present t b l e h f u =
+    let n : false_by t b l ≡ false = false_from_ne_true _ (λ (a : false_by t b l ≡ true). both_ways _ (not-true _ u) (false_set (back_to b t) l (false_back t b l a))) in
+    all_any_mono (λ (s : Step). leb s.level (level_of t)) (λ (s : Step). opposite s.lit l && not (leb s.level b)) (λ (s : Step). opposite s.lit l && eqb s.level (level_of t))
+    (λ s x y. let p : (opposite s.lit l ≡ true) × (not (leb s.level b) ≡ true) = and_parts _ _ y in
+    let i : s.level ≤ level_of t = leb-true _ _ x in
+    let j : b < s.level = leb-false _ _ (not-true _ p.1) in
+    and_from _ _ p.0 (eq-eqb _ _ (omega arith)))
+    t (levels_low t (level_of t) e (omega arith)) (any_without (λ (s : Step). opposite s.lit l) (λ (s : Step). leb s.level b) t f n)
+
+-- a false clause that was quiet below the present level holds a literal of it
+quiet_present : (t : List Step) (b : ℕ) (c : List InLit) → shaped t ≡ true → b + 1 ≡ level_of t → quiet_clause (back_to b t) c ≡ true → false_clause t c ≡ true → has_present t c ≡ true
+quiet_present t b c e h q f =
+    ⊎_elim
+    (λ (a : list_any (true_in (back_to b t)) c ≡ true). all_or_any (false_in t) (true_in (back_to b t)) (has_present t c ≡ true) c f a (λ l x y. absurd (consistent t l e (true_back t b l y) x)))
+    (λ (a : list_any (λ l. unset_in (back_to b t) l && list_any (λ m. unset_in (back_to b t) m && not (same_lit l m)) c) c ≡ true).
+    all_any_mono (false_in t) (λ (l : InLit). unset_in (back_to b t) l && list_any (λ m. unset_in (back_to b t) m && not (same_lit l m)) c) (false_at t (level_of t))
+    (λ l x y. unset_present t b l e h x (and_parts (unset_in (back_to b t) l) (list_any (λ m. unset_in (back_to b t) m && not (same_lit l m)) c) y).0) c f a)
+    (or_cases _ _ q)
+
+pub conflict_present : (held : List Held) (t : List Step) (id : ClauseId) → shaped t ≡ true → 0 < level_of t → QuietBelow held t → names held id (false_clause t) ≡ true → names held id (has_present t) ≡ true
+conflict_present held t id e h q n =
+    let b : level_of t - 1 + 1 ≡ level_of t = omega arith in
+    names_and (λ (k : Held). quiet_clause (back_to (level_of t - 1) t) k.lits) (false_clause t) (has_present t) held id (λ k x y. quiet_present t (level_of t - 1) k.lits e b x y) (q (level_of t - 1) (omega arith)) n

@@ -1,7 +1,7 @@
 //! Laws on what is learned, and on what a search keeps so that it is new. Each is the contract of a
 //! function that does nothing.
 
-ghost use Rattle.analyze.specs.Quiet.{LearnsNew, LearnsUnit, LearnsQuiet, DecisionsKeep, AssignmentsKeep, WayBackKeeps, ConflictsKeep, AddingKeepsReasons, WayBackKeepsReasons};
+ghost use Rattle.analyze.specs.Quiet.{LearnsNew, LearnsUnit, LearnsQuiet, DecisionsKeep, AssignmentsKeep, WayBackKeeps, ConflictsKeep, ConflictsArePresent, AddingKeepsReasons, WayBackKeepsReasons};
 
 /// A learned clause is unit by its first literal after the way back to its level.
 pub fn learned_clauses_are_unit_after_the_way_back()
@@ -38,6 +38,12 @@ pub fn the_way_back_keeps_lower_levels_quiet()
 /// no clause is false or unit below the present level.
 pub fn conflicts_keep_lower_levels_quiet()
     ensures { ConflictsKeep }
+{}
+
+/// A false clause holds a literal of the present level, where no clause was false or unit on the way
+/// back to any level below it.
+pub fn conflicts_hold_a_literal_of_the_present_level()
+    ensures { ConflictsArePresent }
 {}
 
 /// A reasoned trail stays reasoned when a clause is added.
