@@ -90,15 +90,16 @@ top held trail l marks left levels h r a = go (next_step trail.steps (left - 1) 
     go : (s : Step) × IsNext trail.steps (left - 1) s → (s : Step) × Top held trail marks (left - 1) l levels s
     go (s, n) =
         let e : left ≡ left - 1 + 1 = omega arith in
-        let p : rest_of left trail.steps ≡ s ∷ rest_of (left - 1) trail.steps = ap (λ (z : ℕ). rest_of z trail.steps) e ∙ n.here in
-        (s,
-        record {
-          next = n;
-          inside = let i : left ≤ length trail.steps = a.inside in omega arith;
-          parts = split held trail.steps (left - 1) s n.here a.kept.sound r;
-          denies = subst (λ (z : List Step). DeniesWith held trail.steps (is_named levels) l (is_marked marks) z) p a.denies;
-          lower = subst (λ (z : List Step). list_all (λ level. ltb (level_of z) level) levels ≡ true) p a.above;
-        })
+        let p : rest_of left trail.steps ≡ s ∷ rest_of (left - 1) trail.steps = ap (λ (z : ℕ). rest_of z trail.steps) e ∙ n.here in (
+          s,
+          record {
+            next = n;
+            inside = let i : left ≤ length trail.steps = a.inside in omega arith;
+            parts = split held trail.steps (left - 1) s n.here a.kept.sound r;
+            denies = subst (λ (z : List Step). DeniesWith held trail.steps (is_named levels) l (is_marked marks) z) p a.denies;
+            lower = subst (λ (z : List Step). list_all (λ level. ltb (level_of z) level) levels ≡ true) p a.above;
+          },
+        )
 
 -- the levels so far are above that of older steps
 top_above : (held : List Held) (trail : Assignment) (marks : Marking) (left : ℕ) (l : InLit) (levels : List ℕ) (s : Step) → Top held trail marks left l levels s → list_all (λ level. ltb (level_of (rest_of left trail.steps)) level) levels ≡ true

@@ -117,17 +117,18 @@ head held trail walk left e r w = go (next_step trail.steps left (let i : walk.l
         subst (λ (z : List Step). Tracks (level_of trail.steps) trail.steps (is_marked walk.marks) z walk.pending walk.others.items) h w.stands.tracks in
         let l : (leb s.level (level_of trail.steps) ≡ true) × (list_all (λ q. leb q.level (level_of trail.steps)) (rest_of left trail.steps) ≡ true) =
         and_parts _ _ (x.within (λ q. leb q.level (level_of trail.steps)) (levels_low trail.steps (level_of trail.steps) w.stands.kept.sound (omega arith))) in
-        let c : walk.pending ≡ marked (level_of trail.steps) (is_marked walk.marks) (s ∷ rest_of left trail.steps) = m.count in
-        (s,
-        record {
-          next = n;
-          inside = let i : walk.left ≤ length trail.steps = w.stands.left in omega arith;
-          parts = x;
-          level = pending_level (level_of trail.steps) (is_marked walk.marks) s (rest_of left trail.steps) x.is_shaped (leb-true _ _ l.0) (omega (arith, c, w.some));
-          stands = w.stands;
-          tracks = m;
-          denies = subst (λ (z : List Step). Denies held (is_marked walk.marks) z) h w.denies;
-        })
+        let c : walk.pending ≡ marked (level_of trail.steps) (is_marked walk.marks) (s ∷ rest_of left trail.steps) = m.count in (
+          s,
+          record {
+            next = n;
+            inside = let i : walk.left ≤ length trail.steps = w.stands.left in omega arith;
+            parts = x;
+            level = pending_level (level_of trail.steps) (is_marked walk.marks) s (rest_of left trail.steps) x.is_shaped (leb-true _ _ l.0) (omega (arith, c, w.some));
+            stands = w.stands;
+            tracks = m;
+            denies = subst (λ (z : List Step). Denies held (is_marked walk.marks) z) h w.denies;
+          },
+        )
 
 -- it is passed where it is not marked
 pub head_passed : (held : List Held) (trail : Assignment) (walk : Walk) (left : ℕ) (s : Step) → Head held trail walk left s → is_marked walk.marks s.lit.var.0 ≡ false → 0 < walk.pending → AtWalk held trail (record walk { left = left })

@@ -49,10 +49,13 @@ next_step (s ∷ older) n h = ⊎_elim (λ (a : n < length older). later a (next
     }
 
     later : n < length older → (r : Step) × IsNext older n r → (r : Step) × IsNext (s ∷ older) n r
-    later a (r, i) = (r, record {
-      here = rest_older s older (n + 1) (omega arith) ∙ (i.here ∙ ap (λ (z : List Step). r ∷ z) (sym (rest_older s older n (omega arith))));
-      at = λ d. ap (λ (z : List InLit). get_or z n d) (lits_of-newest older s) ∙ (get_or_append_left (lits_of older) (s.lit ∷ []) d n (let l : length (lits_of older) ≡ length older = length-lits_of older in omega arith) ∙ i.at d);
-    })
+    later a (r, i) = (
+      r,
+      record {
+        here = rest_older s older (n + 1) (omega arith) ∙ (i.here ∙ ap (λ (z : List Step). r ∷ z) (sym (rest_older s older n (omega arith))));
+        at = λ d. ap (λ (z : List InLit). get_or z n d) (lits_of-newest older s) ∙ (get_or_append_left (lits_of older) (s.lit ∷ []) d n (let l : length (lits_of older) ≡ length older = length-lits_of older in omega arith) ∙ i.at d);
+      },
+    )
 
 pub reasoned_rest : (held : List Held) (gone rest : List Step) → reasoned held (gone ++ rest) ≡ true → reasoned held rest ≡ true
 reasoned_rest held [] rest e = e

@@ -9,3 +9,4 @@ pub mod Walks
 pub mod Deciding
 pub mod TrailLaws
 pub mod QuietLaws
+pub mod AddedLaws

@@ -112,7 +112,7 @@ back_keeps held t k h l q b i = subst (λ (z : List Step). all_quiet z held ≡ 
 -- and a conflict does, with the learned clause too: the way back to its level, and its first literal there
 pub conflict_keeps : (held : List Held) (t : List Step) (more : Held) (back : ℕ) (s : Step) → shaped t ≡ true → IsLearned held t more.lits back → s.level ≡ back → QuietBelow held t → QuietBelow (held ++ more ∷ []) (s ∷ back_to back t)
 conflict_keeps held t more back s e l v q b h =
-    subst (λ (z : List Step). all_quiet z (held ++ more ∷ []) ≡ true) (sym (back_past (back_to back t) s b h) )
+    subst (λ (z : List Step). all_quiet z (held ++ more ∷ []) ≡ true) (sym (back_past (back_to back t) s b h))
     (subst (λ (z : List Step). all_quiet z (held ++ more ∷ []) ≡ true) (sym (back_twice t b back (omega arith))) both)
   where
     old : all_quiet (back_to b t) held ≡ true

@@ -6,10 +6,9 @@ mod deciding;
 pub mod laws;
 mod marks;
 mod tally;
-mod walk;
-
 #[cfg(test)]
 mod tests;
+mod walk;
 
 pub use analyzer::{Analyzer, Learned};
 pub use tally::Tally;
