@@ -21,11 +21,11 @@ pub struct OwnLit {
 }
 
 /// A variable that a solver's clauses hold now, by a packed number from 0.
-#[derive(Clone, Copy, Debug, PartialEq, Eq, PartialOrd, Ord)]
+#[derive(Clone, Copy, Debug, Default, PartialEq, Eq, PartialOrd, Ord)]
 pub struct Inner(pub u32);
 
 /// A literal of a packed variable, ordered as `Lit`.
-#[derive(Clone, Copy, Debug, PartialEq, Eq, PartialOrd, Ord)]
+#[derive(Clone, Copy, Debug, Default, PartialEq, Eq, PartialOrd, Ord)]
 pub struct InLit {
     pub var: Inner,
     pub negative: bool,

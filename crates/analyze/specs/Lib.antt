@@ -1,0 +1,12 @@
+pub mod Falsity
+pub mod LearnedClauses
+pub mod FinalSets
+pub mod Quiet
+pub mod Counting
+pub mod Marking
+pub mod Inside
+pub mod Walks
+pub mod Deciding
+pub mod TrailLaws
+pub mod QuietLaws
+pub mod AddedLaws
