@@ -62,7 +62,8 @@ impl ClauseStore {
     /// Drops the clause of a live id. The others keep their ids and their order.
     pub fn drop_clause(&mut self, id: ClauseId)
         requires { IsTrue (is_live self.old.held id.0) }
-        ensures { self.new ≡ record self.old { held = without id.0 self.old.held } }
+        ensures rest { self.new ≡ record self.old { held = without id.0 self.old.held } }
+        ensures kept { IsKept self.old }
     {
         self.places[id.0 as usize] = None;
     }
