@@ -1,0 +1,4 @@
+pub mod PuttingIn
+pub mod Collecting
+pub mod Following
+pub mod Moving

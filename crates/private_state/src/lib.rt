@@ -1,0 +1,17 @@
+//! The private state of one solver: what it took from its caller, and the clauses that it holds.
+//!
+//! `PrivateState` changes by moves alone, and after each of them it stands for what it took
+//! (`Stands` of `state_laws`): whatever satisfies what was taken satisfies the clauses, and values
+//! that satisfy the hard clauses are rebuilt to a model of what was taken.
+#![tactic(auto)]
+
+mod collect;
+mod own_form;
+mod own_lits;
+mod put_in;
+mod removed;
+mod state;
+mod values;
+
+pub use state::PrivateState;
+pub use state_laws::Definition;

@@ -1,0 +1,282 @@
+ghost use Rattle.std.specs.Prelude.{◌≡◌, ◌+◌, ◌-◌, ◌≤◌, ◌^◌, length, true, false, IsTrue, IfOk, OnOk, OnErr};
+ghost use Rattle.std.specs.List.{list_any};
+ghost use Rattle.sat_lits.specs.Truth.{clauses_value};
+ghost use Rattle.sat_lits.specs.Meaning.{IsModel};
+ghost use Rattle.rebuild_stack.specs.Entries.{named, is_block_of};
+ghost use Rattle.rebuild_stack.specs.declared.entry.Entry.TheVariants.{Fix};
+ghost use Rattle.clause_store.specs.Store.{hard_of, without};
+ghost use Rattle.state_laws.specs.State.{is_active, outer_count, problem_of};
+ghost use Rattle.state_laws.specs.Conditions.{IsContradicted, EntryFollows, Pushable, Takable, Learnable};
+ghost use Rattle.state_laws.specs.Moves.{put_into, taken, learning, grown};
+ghost use Rattle.state_laws.specs.Held.{in_value};
+ghost use Rattle.state_laws.specs.Kernel.{Standing, no_kernel, state_of, plain_kernel, Gives, Keeps, Longer, IsLearnedId, IsImplied};
+ghost use Rattle.state_laws.specs.RootTableLaws.{entry_of};
+ghost use Rattle.private_state.specs.Removed.{last_lit, fixed_value};
+ghost use Rattle.private_state.specs.Taking.{IsTakable, item_taken};
+
+use crate::collect::{add_all, collect, drop_all};
+use crate::own_form::{add_hard, own_form};
+use crate::own_lits::in_lits;
+use crate::put_in::var_of;
+use crate::removed::{RemovedVars, Status};
+use crate::values::{outer_values, own_values};
+use clause_store::ClauseStore;
+use rebuild_stack::{Entry, RebuildStack};
+use sat_lits::{ClauseId, Item, List, Lit, NoMemory, Own, OwnLit, Shared};
+use state_laws::Definition;
+use std::alloc::Global;
+use std::marker::Model;
+use var_maps::VarMaps;
+
+/// What one solver took, its own variables, and the clauses that it holds.
+///
+/// A literal or a clause in own numbers is one over own variables. A variable is eliminated where
+/// a `Gone` entry of the stack names it.
+#[derive(Debug, Drop)]
+pub struct PrivateState {
+    alloc: Global,
+    items: Vec<Item>,
+    entries: Vec<Shared>,
+    definitions: Vec<Option<Definition>>,
+    maps: VarMaps,
+    store: ClauseStore,
+    removed: RemovedVars,
+    okay: bool,
+}
+
+impl Model for PrivateState {
+    ghost use Rattle.state_laws.specs.Kernel.{Kernel};
+
+    ghost Value = { Kernel };
+
+    ghost use Rattle.private_state.specs.Kept.{kernel_of, IsKept};
+
+    ghost view = { kernel_of };
+
+    ghost invariant = { IsKept };
+}
+
+impl PrivateState {
+    /// A state that took nothing. It takes no memory.
+    pub fn new(alloc: Global) -> PrivateState
+        ensures { plain_kernel result ≡ plain_kernel no_kernel }
+    {
+        PrivateState {
+            alloc,
+            items: Vec::new(alloc),
+            entries: Vec::new(alloc),
+            definitions: Vec::new(alloc),
+            maps: VarMaps::new(alloc),
+            store: ClauseStore::new(alloc),
+            removed: RemovedVars::new(alloc),
+            okay: true,
+        }
+    }
+
+    /// Whether the state was not refuted.
+    pub fn okay(&self) -> bool
+        ensures { result ≡ self.now.okay }
+    {
+        self.okay
+    }
+
+    /// The number of items taken.
+    pub fn taken(&self) -> usize
+        ensures { result ≡ length self.now.items }
+    {
+        self.items.len()
+    }
+
+    /// Whether a variable is there and active.
+    pub fn is_active(&self, own: Own) -> bool
+        ensures { result ≡ is_active (state_of self.now) own.0 }
+    {
+        own.0 < self.maps.own_len() && self.maps.to_inner(own).is_some()
+    }
+
+    /// Whether a `Gone` entry of the stack names a variable.
+    pub fn is_eliminated(&self, own: Own) -> bool
+        ensures { result ≡ list_any (is_block_of own) self.now.stack }
+    {
+        matches!(self.removed.status(own), Status::Eliminated)
+    }
+
+    /// The value to which a variable is fixed. None comes exactly where it is not fixed.
+    pub fn value_of(&self, own: Own) -> Option<bool>
+        ensures { result ≡ fixed_value (entry_of own.0 self.now.stack) }
+    {
+        match self.removed.status(own) {
+            Status::Fixed(value) => Some(value),
+            _ => None,
+        }
+    }
+
+    /// The literal to which replacements lead from a literal, itself where its variable is not
+    /// replaced.
+    pub fn root_of(&self, lit: OwnLit) -> OwnLit
+        ensures { result ≡ last_lit self.now.stack lit }
+    {
+        self.removed.last(lit)
+    }
+
+    pub fn maps(&self) -> &VarMaps
+        ensures { result.now ≡ self.now.maps }
+    {
+        &self.maps
+    }
+
+    pub fn clauses(&self) -> &ClauseStore
+        ensures { result.now ≡ self.now.store }
+    {
+        &self.store
+    }
+
+    pub fn stack(&self) -> &RebuildStack
+        ensures { result.now ≡ self.now.stack }
+    {
+        self.removed.stack()
+    }
+
+    /// Hands to callers' proofs that the state stands. It does nothing when it runs.
+    pub fn stands(&self)
+        ensures { Standing self.now }
+    {
+        let _ = &self.okay;
+    }
+
+    /// Adds outer variables, active, until there are `vars`; with fewer it changes nothing. The
+    /// only error is want of memory, and nothing changes then.
+    pub fn grow(&mut self, vars: u32) -> Result<(), NoMemory>
+        requires { length self.old.definitions + (vars - outer_count self.old.definitions) ≤ 2 ^ 31 }
+        ensures ok { OnOk result (state_of self.new ≡ grown (vars - outer_count self.old.definitions) (state_of self.old)) }
+        ensures clauses { self.new.store ≡ self.old.store }
+        ensures err { OnErr result (plain_kernel self.new ≡ plain_kernel self.old) }
+    {
+        let more = vars.saturating_sub(self.maps.outer_count());
+        self.maps.reserve(more)?;
+        self.definitions.reserve(more as usize)?;
+        self.removed.add_vars(more)?;
+        'each: for _ in 0..more {
+            self.maps.add_outer().unwrap();
+            self.definitions.push(None).unwrap();
+        }
+        Ok(())
+    }
+
+    /// Takes an item, which is a clause today. Its variables are there, and none of them is
+    /// eliminated, nor replaced by an eliminated one. Fixed literals are put in and replaced ones
+    /// substituted, and what is left is held as a hard clause. The only error is want of memory,
+    /// and nothing changes then.
+    pub fn take_input(&mut self, item: &Item) -> Result<(), NoMemory>
+        requires { IsTakable (state_of self.old) item.now }
+        ensures ok { OnOk result (state_of self.new ≡ item_taken item.now (state_of self.old)) }
+        ensures ids { OnOk result (Longer self.old self.new) }
+        ensures err { OnErr result (plain_kernel self.new ≡ plain_kernel self.old) }
+    {
+        match item {
+            Item::Clause(lits) => self.take_clause(lits.as_slice()),
+            Item::Parity { .. } => unreachable!(),
+        }
+    }
+
+    fn take_clause(&mut self, lits: &[Lit]) -> Result<(), NoMemory>
+        requires { Takable (state_of self.old) lits.now }
+        ensures ok { OnOk result (state_of self.new ≡ taken lits.now (state_of self.old)) }
+        ensures ids { OnOk result (Longer self.old self.new) }
+        ensures err { OnErr result (plain_kernel self.new ≡ plain_kernel self.old) }
+    {
+        let item = Item::Clause(List::from_slice(self.alloc, lits)?);
+        let clause = own_form(self.alloc, &self.maps, &self.removed, lits)?;
+        self.items.reserve(1)?;
+        add_hard(&mut self.store, &clause)?;
+        self.items.push(item).unwrap();
+        Ok(())
+    }
+
+    /// Adds a learned clause, and tells its id. Its variables are active, none stands in it twice,
+    /// and it follows from the hard and the learned clauses. The only error is want of memory, and
+    /// nothing changes then.
+    pub fn add_learned(&mut self, lits: &[OwnLit]) -> Result<ClauseId, NoMemory>
+        requires { Learnable (state_of self.old) lits.now }
+        ensures ok { OnOk result (state_of self.new ≡ learning lits.now (state_of self.old)) }
+        ensures id { IfOk result (λ id. Gives self.old self.new true id.0) }
+        ensures err { OnErr result (self.new ≡ self.old) }
+    {
+        let stored = in_lits(self.alloc, &self.maps, lits)?;
+        let id = self.store.add(stored.as_slice(), true)?;
+        Ok(id)
+    }
+
+    /// Drops a learned clause, by the id of one that is held.
+    pub fn drop_learned(&mut self, id: ClauseId)
+        requires { IsLearnedId self.old id.0 }
+        ensures { self.new ≡ record self.old { store = record self.old.store { held = without id.0 self.old.store.held } } }
+    {
+        self.store.drop_clause(id);
+    }
+
+    /// Drops a hard clause that follows from the other hard clauses, by the id of one that is held.
+    pub fn drop_implied(&mut self, id: ClauseId)
+        requires { IsImplied self.old id.0 }
+        ensures { self.new ≡ record self.old { store = record self.old.store { held = without id.0 self.old.store.held } } }
+    {
+        self.store.drop_clause(id);
+    }
+
+    /// Fixes a literal of an active variable, which follows from the hard and the learned clauses:
+    /// pushes a `Fix` entry, drops the clauses that hold the literal, and shortens those that hold
+    /// its negation. The only error is want of memory, and nothing changes then.
+    pub fn fix(&mut self, lit: OwnLit) -> Result<(), NoMemory>
+        requires active { IsTrue (is_active (state_of self.old) lit.var.0) }
+        requires follows { EntryFollows (state_of self.old) (Fix lit) }
+        ensures ok { OnOk result (state_of self.new ≡ put_into (Fix lit) (state_of self.old)) }
+        ensures ids { OnOk result (Keeps self.old self.new lit.var.0) }
+        ensures err { OnErr result (plain_kernel self.new ≡ plain_kernel self.old) }
+    {
+        self.push_entry(Entry::Fix(lit))
+    }
+
+    /// Pushes an entry that follows and fixes or replaces an active variable, and puts it into the
+    /// clauses that hold the variable.
+    fn push_entry(&mut self, entry: Entry) -> Result<(), NoMemory>
+        requires pushable { Pushable (state_of self.old) entry }
+        requires follows { EntryFollows (state_of self.old) entry }
+        ensures ok { OnOk result (state_of self.new ≡ put_into entry (state_of self.old)) }
+        ensures ids { OnOk result (Keeps self.old self.new (named entry)) }
+        ensures err { OnErr result (plain_kernel self.new ≡ plain_kernel self.old) }
+    {
+        let var = var_of(&entry);
+        let changes = collect(self.alloc, &self.maps, &self.store, &entry)?;
+        let ids = add_all(self.alloc, &mut self.store, &changes.fresh)?;
+        if let Err(error) = self.removed.push(entry) {
+            drop_all(&mut self.store, &ids);
+            return Err(error);
+        }
+        drop_all(&mut self.store, &changes.doomed);
+        self.maps.retire(var);
+        Ok(())
+    }
+
+    /// Makes the state not okay. The hard and the learned clauses have no solution.
+    pub fn refute(&mut self)
+        requires { IsContradicted (state_of self.old) }
+        ensures { self.new ≡ record self.old { okay = false } }
+    {
+        self.okay = false;
+    }
+
+    /// The values of the outer variables, in order, rebuilt from the values of the inner ones. The
+    /// state is okay, and the inner values satisfy the hard clauses. The only error is want of
+    /// memory.
+    pub fn outer_model(&self, inner: &[bool]) -> Result<List<bool>, NoMemory>
+        requires okay { IsTrue self.now.okay }
+        requires long { length inner.now ≡ length self.now.maps.owners }
+        requires satisfied { IsTrue (clauses_value (in_value inner.now) (hard_of self.now.store.held)) }
+        ensures { IfOk result (λ values. IsModel (problem_of (state_of self.now)) values) }
+    {
+        let mut own = own_values(self.alloc, &self.maps, inner)?;
+        self.removed.stack().rebuild(&mut own);
+        let outer = outer_values(self.alloc, &self.maps, &own)?;
+        Ok(outer)
+    }
+}
