@@ -1,4 +1,4 @@
-use Rattle.std.proofs.Common.{◌≡◌, ◌∙◌, List, false, true, map, ap, sym, subst, refl, cond, not, eqb, Bool, [], ◌∷◌, ℕ, Option, Some}
+use Rattle.std.proofs.Common.{◌≡◌, List, false, true, map, sym, subst, refl, cond, not, eqb, Bool, [], ◌∷◌, ℕ, Some}
 use Rattle.std.specs.Option.{is_some}
 use Rattle.std.proofs.lemmas.Bool.{not_from_false}
 use Rattle.clause_store.specs.Store.{Held, held_as, is_live, clause_at}

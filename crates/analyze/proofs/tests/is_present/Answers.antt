@@ -1,7 +1,6 @@
-use Rattle.std.proofs.Common.{◌≡◌, ◌<◌, ◌∙◌, ℕ, true, false, not, eqb, ◌&&◌, ◌||◌, List, length, get_or, Some, unwrap_or, ap, sym, arith, eq-eqb}
+use Rattle.std.proofs.Common.{◌≡◌, ◌<◌, ◌∙◌, ℕ, true, false, not, eqb, ◌&&◌, ◌||◌, List, length, get_or, Some, unwrap_or, ap, sym, eq-eqb}
 use Rattle.std.proofs.lemmas.Bool.{and_from}
 use Rattle.std.proofs.lemmas.List.Folds.{list_any_at}
-use Rattle.std.specs.List.{list_any}
 use Rattle.sat_lits.specs.InLits.{opposite}
 use Rattle.sat_lits.specs.ListLaws.{all_at, all_any_mono}
 use Rattle.sat_lits.specs.declared.literal.InLit.{InLit}
