@@ -1,28 +1,28 @@
 -- The walk back from a false literal to decisions.
 use Rattle.std.proofs.Common.{◌≡◌, ◌<◌, ◌≤◌, ◌+◌, ◌-◌, ℕ, zero, suc, Bool, true, false, not, eqb, leb, ltb, ◌&&◌, ◌||◌, List, [], ◌∷◌, ◌++◌, length, reverse, take, drop, get_or, append-nil, Option, Some, None, unwrap_or, refl, sym, ap, subst, ◌∙◌, ⊎_elim, arith, eq-eqb, ltb-true, lt-ltb}
-use Rattle.std.proofs.lemmas.Bool.{and_parts, and_from, or_cases, or_left, or_right, eqb-true, leb-true, le-leb, false≢true, both_ways, not-true, false_from_ne_true, cases_lt}
+use Rattle.std.proofs.lemmas.Bool.{and_parts, and_from, or_cases, or_left, or_right, leb-true, le-leb, false≢true, both_ways, not-true, false_from_ne_true}
 use Rattle.std.proofs.lemmas.List.{reverse-append, drop_all, take_all}
 use Rattle.std.proofs.lemmas.List.Folds.{list_any-append, list_all-append, list_all_more}
 use Rattle.std.specs.List.{list_any, list_all, refill}
 use Rattle.std.specs.List.Sorted.{IsStrictlyIncreasing}
-use Rattle.sat_lits.specs.InLits.{same_lit, opposite}
-use Rattle.sat_lits.specs.ListLaws.{all_or_any, all_mono, all_any_mono, both_all}
+use Rattle.sat_lits.specs.InLits.{same_lit}
+use Rattle.sat_lits.specs.ListLaws.{all_mono, both_all}
 use Rattle.sat_lits.specs.declared.literal.InLit.{InLit}
 use Rattle.sat_lits.specs.declared.literal.Inner.{Inner}
 use Rattle.sat_lits.specs.declared.literal.ClauseId.{ClauseId}
 use Rattle.trail.specs.declared.trail.Step.{Step}
-use Rattle.trail.specs.Trail.{Assignment, IsKept, false_in, level_of, level_in, reason_in, lits_of, decided, shaped, shaped_step}
+use Rattle.trail.specs.Trail.{Assignment, IsKept, false_in, level_of, reason_in, lits_of, decided, shaped, shaped_step}
 use Rattle.trail.specs.Laws.{levels_low, level_up}
 use Rattle.clause_store.specs.Store.{Held}
 use Rattle.propagate.specs.Units.{gives}
-use Rattle.propagate.specs.Reasons.{has_reason, reasoned, lit_value, held_value}
-use Rattle.analyze.specs.FinalSets.{decisions_value, Contradicts, has_decision, IsFinalSet}
-use Rattle.analyze.specs.Marking.{Marking, IsFresh, MarksNew, is_marked, is_root, level_or}
+use Rattle.propagate.specs.Reasons.{has_reason, reasoned, lit_value}
+use Rattle.analyze.specs.FinalSets.{decisions_value, has_decision, IsFinalSet}
+use Rattle.analyze.specs.Marking.{Marking, MarksNew, is_marked, is_root, level_or}
 use Rattle.analyze.specs.Walks.{covered, denied, rest_of}
 use Rattle.analyze.specs.Deciding.{is_named, DeniesWith, falls, AtDecisions, Covers}
 use Rattle.analyze.proofs.Entailing.{lits_at, names_lits, read_value, roots, covered_denied, pass_denied, resolve_denied}
 use Rattle.analyze.proofs.Shortening.{holds}
-use Rattle.analyze.proofs.Rests.{length-lits_of, rest_parts, rest_all, rest_none, IsNext, next_step, Split, split}
+use Rattle.analyze.proofs.Rests.{rest_all, rest_none, IsNext, next_step, Split, split}
 use Rattle.analyze.proofs.Marked.{is_marked-push, settled_covered}
 
 -- after a mark its variable is settled

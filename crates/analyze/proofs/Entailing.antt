@@ -1,10 +1,10 @@
 -- What follows from clauses and a reasoned trail, one step of the walk at a time.
-use Rattle.std.proofs.Common.{◌≡◌, ◌<◌, ◌≤◌, ◌+◌, ℕ, Bool, true, false, cond, not, eqb, leb, ◌&&◌, ◌||◌, List, [], ◌∷◌, ◌++◌, Option, Some, None, option_map, Result, Ok, Err, refl, sym, ap, subst, ◌∙◌, ⊎_elim, arith, eq-eqb, ltb-true}
+use Rattle.std.proofs.Common.{◌≡◌, ◌<◌, ◌≤◌, ℕ, Bool, true, false, cond, not, eqb, leb, ◌&&◌, ◌||◌, List, [], ◌∷◌, Option, Some, None, option_map, Result, Ok, Err, refl, sym, ap, ◌∙◌, ⊎_elim, arith, eq-eqb, ltb-true}
 use Rattle.std.proofs.lemmas.Bool.{and_parts, and_from, or_cases, eqb-true, leb-true, not-true, false≢true, both_ways}
 use Rattle.std.proofs.lemmas.Option.{same_Some, none-some}
 use Rattle.std.specs.Option.{is_some}
 use Rattle.std.specs.Result.{IfOk}
-use Rattle.std.specs.List.{list_any, list_all}
+use Rattle.std.specs.List.{list_all}
 use Rattle.sat_lits.specs.InLits.{same_lit, opposite}
 use Rattle.sat_lits.specs.ListLaws.{all_or_any, any_mono, all_any_mono, both_all}
 use Rattle.sat_lits.specs.ClauseLaws.{signed_same, signed_opposite}
@@ -16,7 +16,7 @@ use Rattle.trail.specs.Trail.{level_of, shaped, shaped_step}
 use Rattle.trail.specs.Laws.{levels_low, level_up}
 use Rattle.clause_store.specs.Store.{Held, clause_at, is_live}
 use Rattle.propagate.specs.Reasons.{names, passes, has_reason, reasoned, lit_value, steps_value, held_value}
-use Rattle.propagate.specs.Laws.{named_all, reason_value}
+use Rattle.propagate.specs.Laws.{reason_value}
 use Rattle.analyze.specs.Walks.{denied, covered}
 
 -- what holds after a success gives something else

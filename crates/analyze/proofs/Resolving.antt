@@ -1,7 +1,7 @@
 -- The walk back: its start at a conflict, each literal that it passes, and its end.
-use Rattle.std.proofs.Common.{◌≡◌, ◌<◌, ◌≤◌, ◌+◌, ◌-◌, ℕ, suc, Bool, true, false, not, eqb, leb, ltb, ◌&&◌, ◌||◌, List, [], ◌∷◌, length, get_or, Option, Some, None, refl, sym, ap, subst, ◌∙◌, ⊎_elim, arith, eq-eqb}
+use Rattle.std.proofs.Common.{◌≡◌, ◌<◌, ◌≤◌, ◌+◌, ◌-◌, ℕ, suc, Bool, true, false, not, eqb, leb, ◌&&◌, ◌||◌, List, [], ◌∷◌, length, get_or, Option, Some, None, refl, sym, ap, subst, ◌∙◌, ⊎_elim, arith, eq-eqb}
 use Rattle.std.specs.Bool.{beq}
-use Rattle.std.proofs.lemmas.Bool.{and_parts, and_from, or_cases, or_left, or_right, eqb-true, leb-true, false≢true, both_ways, not-true, not_from_false, cases_lt}
+use Rattle.std.proofs.lemmas.Bool.{and_parts, and_from, or_cases, or_left, or_right, eqb-true, leb-true, false≢true, both_ways, not-true, cases_lt}
 use Rattle.std.specs.List.{list_any, list_all}
 use Rattle.sat_lits.specs.InLits.{same_lit, opposite}
 use Rattle.sat_lits.specs.ListLaws.{all_mono, all_or_any, all_any_mono, both_all}
@@ -13,11 +13,11 @@ use Rattle.trail.specs.Trail.{Assignment, IsKept, false_in, level_of, reason_in,
 use Rattle.trail.specs.Laws.{levels_low}
 use Rattle.clause_store.specs.Store.{Held, is_live}
 use Rattle.propagate.specs.Units.{false_clause, gives}
-use Rattle.propagate.specs.Reasons.{names, has_reason, reasoned, held_value}
+use Rattle.propagate.specs.Reasons.{names, has_reason, reasoned}
 use Rattle.analyze.specs.declared.walk.Walk.{Walk}
 use Rattle.analyze.specs.Falsity.{false_at, has_present}
-use Rattle.analyze.specs.Marking.{Marking, is_marked, IsFresh}
-use Rattle.analyze.specs.Walks.{covered, denied, marked, rest_of, Tracks, Denies, Stands, IsStart, MarkedAll, AtWalk, IsTaken, AtEnd, may_mark}
+use Rattle.analyze.specs.Marking.{is_marked, IsFresh}
+use Rattle.analyze.specs.Walks.{covered, marked, rest_of, Tracks, Denies, Stands, IsStart, MarkedAll, AtWalk, IsTaken, AtEnd, may_mark}
 use Rattle.analyze.specs.TrailLaws.{opposite_var, same_var, only_level}
 use Rattle.analyze.proofs.Entailing.{lits_at, names_live, names_lits, read_value, roots, conflict_denied, pass_denied, resolve_denied}
 use Rattle.analyze.proofs.Tracking.{pass_tracks, take_tracks, pending_level, pending_reason, marked_some, marked_mono, marked_nothing, end_follows}

@@ -1,11 +1,10 @@
 -- The rest of a walk back over a trail.
-use Rattle.std.proofs.Common.{◌≡◌, ◌<◌, ◌≤◌, ◌+◌, ◌-◌, ℕ, suc, Bool, true, false, cond, not, eqb, ◌&&◌, ◌||◌, List, [], ◌∷◌, ◌++◌, length, map, reverse, take, drop, get_or, Option, Some, None, option_map, option_and_then, refl, sym, ap, subst, ◌∙◌, ⊎_elim, arith, eq-eqb}
-use Rattle.std.proofs.lemmas.Bool.{and_parts, and_from, eqb-true, both_ways, cases_lt, false_from_ne_true}
+use Rattle.std.proofs.Common.{◌≡◌, ◌<◌, ◌≤◌, ◌+◌, ◌-◌, ℕ, suc, Bool, true, false, eqb, ◌||◌, List, [], ◌∷◌, ◌++◌, length, map, take, drop, get_or, Some, option_map, option_and_then, refl, sym, ap, subst, ◌∙◌, ⊎_elim, arith, eq-eqb}
+use Rattle.std.proofs.lemmas.Bool.{and_parts, eqb-true, both_ways, cases_lt, false_from_ne_true}
 use Rattle.std.proofs.lemmas.List.{take-append-drop, get_or_append_left, length-map, length-reverse, length-drop, drop_all}
 use Rattle.std.proofs.Math.Seq.{get_or-append_seam}
 use Rattle.std.specs.List.{list_any, list_all}
 use Rattle.sat_lits.specs.declared.literal.InLit.{InLit}
-use Rattle.sat_lits.specs.declared.literal.ClauseId.{ClauseId}
 use Rattle.trail.specs.declared.trail.Step.{Step}
 use Rattle.trail.specs.Trail.{set_in, step_in, level_in, reason_in, lits_of, shaped, shaped_step}
 use Rattle.trail.specs.Laws.{step_new, lits_of-newest}

@@ -1,5 +1,5 @@
 -- A clause without the literals that its others imply.
-use Rattle.std.proofs.Common.{◌≡◌, ◌<◌, ◌≤◌, ◌+◌, ◌⊎◌, ℕ, Bool, true, false, cond, not, eqb, leb, ltb, ◌&&◌, ◌||◌, List, [], ◌∷◌, ◌++◌, length, filter, take, get_or, max, Option, Some, None, option_and_then, refl, sym, ap, subst, ◌∙◌, ⊎_elim, inl, inr, arith, append_assoc, eq-eqb, ltb-true, lt-ltb}
+use Rattle.std.proofs.Common.{◌≡◌, ◌<◌, ◌≤◌, ◌+◌, ℕ, Bool, true, false, cond, not, eqb, leb, ltb, ◌&&◌, ◌||◌, List, [], ◌∷◌, ◌++◌, length, filter, take, get_or, max, Option, Some, None, option_and_then, refl, sym, ap, subst, ◌∙◌, ⊎_elim, inl, inr, arith, append_assoc, eq-eqb, ltb-true, lt-ltb}
 use Rattle.std.proofs.lemmas.Bool.{and_parts, and_from, or_cases, or_left, or_right, eqb-true, leb-true, le-leb, false≢true, true≢false, both_ways, not-true, not_from_false, false_from_ne_true, cases_lt}
 use Rattle.std.proofs.lemmas.List.Folds.{list_all_more, list_any_kept, list_any_more}
 use Rattle.std.specs.List.{list_any, list_all}
@@ -19,9 +19,9 @@ use Rattle.analyze.specs.declared.walk.Walk.{Walk}
 use Rattle.analyze.specs.Falsity.{false_at, false_by, false_under}
 use Rattle.analyze.specs.LearnedClauses.{ClauseFollows, IsLearned, has_each_once}
 use Rattle.analyze.specs.Marking.{is_marked, is_root, level_or, IsGreatest}
-use Rattle.analyze.specs.Walks.{Tracks, AtEnd, is_settled, settles, is_implied}
+use Rattle.analyze.specs.Walks.{AtEnd, is_settled, settles, is_implied}
 use Rattle.analyze.specs.TrailLaws.{opposite_var, filter_any, false_set, only_level}
-use Rattle.analyze.proofs.Entailing.{names_live, same_lit_value, opposite_value, roots_true, roots}
+use Rattle.analyze.proofs.Entailing.{names_live, same_lit_value, opposite_value, roots}
 use Rattle.analyze.proofs.Tracking.{level_all}
 use Rattle.analyze.proofs.Rests.{Split, split_parts}
 use Rattle.analyze.proofs.Marked.{level_set}

@@ -1,21 +1,21 @@
 -- What marking, passing and taking a literal do to the counts of a walk.
-use Rattle.std.proofs.Common.{◌≡◌, ◌<◌, ◌≤◌, ◌+◌, ℕ, suc, Bool, true, false, cond, not, eqb, ltb, leb, ◌&&◌, ◌||◌, List, [], ◌∷◌, ◌++◌, length, Option, Some, None, option_map, refl, sym, ap, subst, ◌∙◌, ⊎_elim, arith, eq-eqb, ne_eqb, ltb-true, lt-ltb}
-use Rattle.std.proofs.lemmas.Bool.{and_parts, and_from, or_cases, or_left, or_right, or_from, eqb-true, leb-true, true≢false, false≢true, not-true, not_from_false, both_ways, false_from_ne_true, cases_lt}
+use Rattle.std.proofs.Common.{◌≡◌, ◌<◌, ◌≤◌, ◌+◌, ℕ, suc, Bool, true, false, cond, not, eqb, ltb, ◌&&◌, ◌||◌, List, [], ◌∷◌, ◌++◌, length, Some, None, option_map, refl, sym, ap, subst, ◌∙◌, ⊎_elim, arith, eq-eqb, ne_eqb, ltb-true, lt-ltb}
+use Rattle.std.proofs.lemmas.Bool.{and_parts, and_from, or_cases, or_left, or_right, or_from, eqb-true, true≢false, false≢true, not-true, not_from_false, both_ways, false_from_ne_true, cases_lt}
 use Rattle.std.proofs.lemmas.List.Folds.{list_any-append, list_all-append}
 use Rattle.std.specs.List.{list_any, list_all}
-use Rattle.sat_lits.specs.InLits.{same_lit, opposite}
+use Rattle.sat_lits.specs.InLits.{opposite}
 use Rattle.sat_lits.specs.ListLaws.{all_or_any, any_mono, all_mono, all_any_mono, both_all}
 use Rattle.sat_lits.specs.Truth.{clause_value}
 use Rattle.sat_lits.specs.declared.literal.InLit.{InLit}
 use Rattle.trail.specs.declared.trail.Step.{Step}
 use Rattle.trail.specs.Trail.{false_in, set_in, step_in, level_in, level_of, shaped, shaped_step}
-use Rattle.trail.specs.Laws.{step_new, level_up, levels_low}
+use Rattle.trail.specs.Laws.{step_new, level_up}
 use Rattle.clause_store.specs.Store.{Held}
-use Rattle.propagate.specs.Reasons.{has_reason, lit_value, held_value}
-use Rattle.analyze.specs.Falsity.{false_at, false_under}
+use Rattle.propagate.specs.Reasons.{has_reason, lit_value}
+use Rattle.analyze.specs.Falsity.{false_under}
 use Rattle.analyze.specs.LearnedClauses.{ClauseFollows, has_each_once}
 use Rattle.analyze.specs.Walks.{denied, covered, marked, Tracks, Denies}
-use Rattle.analyze.specs.TrailLaws.{opposite_var, same_var, false_set, none_elsewhere, only_opposite}
+use Rattle.analyze.specs.TrailLaws.{opposite_var, false_set, none_elsewhere, only_opposite}
 use Rattle.analyze.proofs.Entailing.{opposite_value}
 
 -- the marks with one variable more

@@ -1,7 +1,6 @@
 -- What the fields of marks mean, and what they keep.
 use Rattle.std.specs.Prelude.{◌≡◌, ℕ, ◌==◌, Bool, false, List, length, slice_index_or}
 use Rattle.std.specs.List.{list_any}
-use Rattle.sat_lits.specs.declared.literal.Inner.{Inner}
 use Rattle.analyze.specs.declared.marks.Marks.TheInside.{Inside}
 use Rattle.analyze.specs.Marking.{Marking}
 

@@ -1,19 +1,18 @@
 -- Facts on literals that are false by a level, and on the way back, that every crate above may cite.
-use Rattle.std.proofs.Common.{◌≡◌, ◌<◌, ◌≤◌, ◌+◌, ℕ, Bool, true, false, cond, not, eqb, leb, ltb, ◌&&◌, ◌||◌, ◌⊎◌, List, [], ◌∷◌, ◌++◌, filter, Option, Some, None, option_map, refl, sym, ap, ap₂, subst, ◌∙◌, ⊎_elim, arith, eq-eqb, ltb-true}
+use Rattle.std.proofs.Common.{◌≡◌, ◌<◌, ◌≤◌, ℕ, Bool, true, false, cond, not, eqb, leb, ◌&&◌, ◌||◌, ◌⊎◌, List, [], ◌∷◌, ◌++◌, filter, Option, Some, None, refl, sym, ap, ap₂, subst, ◌∙◌, ⊎_elim, arith, eq-eqb}
 use Rattle.std.specs.Bool.{beq}
 use Rattle.std.proofs.lemmas.Bool.{and_parts, and_from, or_cases, or_left, or_right, eqb-true, leb-true, le-leb, true≢false, false≢true, not-true, not_from_false, both_ways, false_from_ne_true, cases_lt}
-use Rattle.std.proofs.lemmas.List.Folds.{list_all-append, list_any-append}
 use Rattle.std.specs.List.{list_any, list_all}
 use Rattle.sat_lits.specs.InLits.{same_lit, opposite}
-use Rattle.sat_lits.specs.ListLaws.{all_or_any, any_mono, all_mono, all_any_mono, both_all, any_filter}
+use Rattle.sat_lits.specs.ListLaws.{all_or_any, any_mono, any_filter}
 use Rattle.sat_lits.specs.ClauseLaws.{beq_true}
 use Rattle.sat_lits.specs.declared.literal.InLit.{InLit}
 use Rattle.sat_lits.specs.declared.literal.ClauseId.{ClauseId}
 use Rattle.trail.specs.declared.trail.Step.{Step}
-use Rattle.trail.specs.Trail.{true_in, false_in, set_in, step_in, level_in, level_of, decided, shaped, shaped_step, back_to}
-use Rattle.trail.specs.Laws.{step_new, step_level, level_up, levels_low, back_nowhere, back_past}
+use Rattle.trail.specs.Trail.{true_in, false_in, set_in, shaped, shaped_step, back_to}
+use Rattle.trail.specs.Laws.{step_new, back_nowhere, back_past}
 use Rattle.clause_store.specs.Store.{Held, clause_at}
-use Rattle.propagate.specs.Units.{unit_by, gives}
+use Rattle.propagate.specs.Units.{gives}
 use Rattle.propagate.specs.Reasons.{names, passes, has_reason, reasoned}
 use Rattle.analyze.specs.Falsity.{false_at, false_by}
 

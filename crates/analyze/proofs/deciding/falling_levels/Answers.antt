@@ -1,4 +1,4 @@
-use Rattle.std.proofs.Common.{◌<◌, ◌∙◌, ap, sym, unwrap_or, false, arith}
+use Rattle.std.proofs.Common.{◌∙◌, ap, sym, unwrap_or, false}
 use Rattle.analyze.proofs.Shortening.{reason_live}
 use Rattle.analyze.proofs.Decisions.{decisions_pass, decisions_resolve, decisions_name}
 use Rattle.analyze.proofs.deciding.falling_levels.Goals as goal

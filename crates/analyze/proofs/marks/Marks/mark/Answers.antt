@@ -1,4 +1,4 @@
-use Rattle.std.proofs.Common.{◌<◌, ◌∙◌, ap, sym, unwrap_or, arith}
+use Rattle.std.proofs.Common.{◌<◌, ◌∙◌, ap, unwrap_or, arith}
 use Rattle.analyze.proofs.Unmarking.{level_reserved}
 use Rattle.analyze.proofs.marks.Marks.mark.Goals as goal
 

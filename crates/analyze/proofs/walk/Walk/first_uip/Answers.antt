@@ -1,4 +1,4 @@
-use Rattle.std.proofs.Common.{◌∙◌, ap, sym, false, arith}
+use Rattle.std.proofs.Common.{◌∙◌, sym, false}
 use Rattle.analyze.proofs.Resolving.{walk_passed, walk_taken, walk_end}
 use Rattle.analyze.proofs.walk.Walk.first_uip.Goals as goal
 

@@ -1,4 +1,4 @@
-use Rattle.std.proofs.Common.{◌≡◌, ◌<◌, ◌+◌, ◌^◌, ℕ, Option, Some, None, subst, arith}
+use Rattle.std.proofs.Common.{◌<◌, ◌+◌, ◌^◌, ℕ, Option, Some, None, subst, arith}
 use Rattle.analyze.specs.Marking.{MarksNew}
 use Rattle.analyze.proofs.Marked.{marked_before, marked_present, marked_lower, pending_room}
 use Rattle.analyze.proofs.walk.Walk.mark.Goals as goal

@@ -1,4 +1,4 @@
-use Rattle.std.proofs.Common.{◌∙◌, ap, sym, subst, refl, length}
+use Rattle.std.proofs.Common.{◌∙◌, ap, subst, refl, length}
 use Rattle.analyze.specs.Marking.{IsFresh}
 use Rattle.analyze.proofs.Resolving.{start_stands}
 use Rattle.analyze.proofs.Rests.{length-lits_of}
