@@ -49,10 +49,11 @@ activity_in order v = unwrap_or (option_map (λ p. p.activity) (preference_in or
 abbrev pub IsLimited : List (Option Preference) → Type 0
 IsLimited order = (v : ℕ) (p : Preference) → preference_in order v ≡ Some p → p.activity ≤ 2 ^ 62
 
--- half the activity, rounded down
+-- a preference with half the activity, rounded down
 abbrev pub half_preference : Preference → Preference
 half_preference p = record p { activity = p.activity / 2 }
 
+-- the same of a candidate
 abbrev pub half_candidate : Candidate → Candidate
 half_candidate a = record a { activity = a.activity / 2 }
 

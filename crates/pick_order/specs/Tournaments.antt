@@ -16,7 +16,7 @@ pub record IsFirst (entrants : List (Option Candidate)) (found : Option Candidat
 abbrev pub IsPlayedAt : List (Option Candidate) → ℕ → Type 0
 IsPlayedAt places k = entrant places k ≡ first_of (entrant places (2 * k)) (entrant places (2 * k + 1))
 
--- each match is played, where the entrants stand behind as many places
+-- each match is played, where the entrants stand last and as many winners before them
 abbrev pub IsPlayed : List (Option Candidate) → ℕ → Type 0
 IsPlayed places count = (k : ℕ) → 1 ≤ k → k < count → IsPlayedAt places k
 
