@@ -5,11 +5,12 @@ ghost use Rattle.sat_lits.specs.Meaning.{IsModel};
 ghost use Rattle.rebuild_stack.specs.Entries.{named, is_block_of};
 ghost use Rattle.rebuild_stack.specs.declared.entry.Entry.TheVariants.{Fix};
 ghost use Rattle.clause_store.specs.Store.{hard_of, without};
+ghost use Rattle.var_maps.specs.Maps.{plain, retired};
 ghost use Rattle.state_laws.specs.State.{is_active, outer_count, problem_of};
 ghost use Rattle.state_laws.specs.Conditions.{IsContradicted, EntryFollows, Pushable, Takable, Learnable};
 ghost use Rattle.state_laws.specs.Moves.{put_into, taken, learning, grown};
 ghost use Rattle.state_laws.specs.Held.{in_value};
-ghost use Rattle.state_laws.specs.Kernel.{Standing, no_kernel, state_of, plain_kernel, Gives, Keeps, Longer, IsLearnedId, IsImplied};
+ghost use Rattle.state_laws.specs.Kernel.{Standing, no_kernel, state_of, plain_kernel, Learns, Keeps, Longer, IsLearnedId, IsImplied};
 ghost use Rattle.state_laws.specs.RootTableLaws.{entry_of};
 ghost use Rattle.private_state.specs.Removed.{last_lit, fixed_value};
 ghost use Rattle.private_state.specs.Taking.{IsTakable, item_taken};
@@ -119,18 +120,21 @@ impl PrivateState {
         self.removed.last(lit)
     }
 
+    /// The numbers of the variables.
     pub fn maps(&self) -> &VarMaps
         ensures { result.now ≡ self.now.maps }
     {
         &self.maps
     }
 
+    /// The clauses that are held, in inner literals.
     pub fn clauses(&self) -> &ClauseStore
         ensures { result.now ≡ self.now.store }
     {
         &self.store
     }
 
+    /// The variables that left the clauses, and how their values are rebuilt.
     pub fn stack(&self) -> &RebuildStack
         ensures { result.now ≡ self.now.stack }
     {
@@ -171,6 +175,7 @@ impl PrivateState {
         requires { IsTakable (state_of self.old) item.now }
         ensures ok { OnOk result (state_of self.new ≡ item_taken item.now (state_of self.old)) }
         ensures ids { OnOk result (Longer self.old self.new) }
+        ensures maps { self.new.maps ≡ self.old.maps }
         ensures err { OnErr result (plain_kernel self.new ≡ plain_kernel self.old) }
     {
         match item {
@@ -183,6 +188,7 @@ impl PrivateState {
         requires { Takable (state_of self.old) lits.now }
         ensures ok { OnOk result (state_of self.new ≡ taken lits.now (state_of self.old)) }
         ensures ids { OnOk result (Longer self.old self.new) }
+        ensures maps { self.new.maps ≡ self.old.maps }
         ensures err { OnErr result (plain_kernel self.new ≡ plain_kernel self.old) }
     {
         let item = Item::Clause(List::from_slice(self.alloc, lits)?);
@@ -199,7 +205,8 @@ impl PrivateState {
     pub fn add_learned(&mut self, lits: &[OwnLit]) -> Result<ClauseId, NoMemory>
         requires { Learnable (state_of self.old) lits.now }
         ensures ok { OnOk result (state_of self.new ≡ learning lits.now (state_of self.old)) }
-        ensures id { IfOk result (λ id. Gives self.old self.new true id.0) }
+        ensures stored { IfOk result (λ id. Learns self.old self.new lits.now id.0) }
+        ensures same { self.new ≡ record self.old { store = self.new.store } }
         ensures err { OnErr result (self.new ≡ self.old) }
     {
         let stored = in_lits(self.alloc, &self.maps, lits)?;
@@ -231,6 +238,7 @@ impl PrivateState {
         requires follows { EntryFollows (state_of self.old) (Fix lit) }
         ensures ok { OnOk result (state_of self.new ≡ put_into (Fix lit) (state_of self.old)) }
         ensures ids { OnOk result (Keeps self.old self.new lit.var.0) }
+        ensures maps { OnOk result (plain self.new.maps ≡ plain (retired lit.var.0 self.old.maps)) }
         ensures err { OnErr result (plain_kernel self.new ≡ plain_kernel self.old) }
     {
         self.push_entry(Entry::Fix(lit))
@@ -243,6 +251,7 @@ impl PrivateState {
         requires follows { EntryFollows (state_of self.old) entry }
         ensures ok { OnOk result (state_of self.new ≡ put_into entry (state_of self.old)) }
         ensures ids { OnOk result (Keeps self.old self.new (named entry)) }
+        ensures maps { OnOk result (plain self.new.maps ≡ plain (retired (named entry) self.old.maps)) }
         ensures err { OnErr result (plain_kernel self.new ≡ plain_kernel self.old) }
     {
         let var = var_of(&entry);

@@ -4,6 +4,7 @@ use Rattle.std.specs.declared.option.Option.{Option}
 use Rattle.std.specs.List.{list_all}
 use Rattle.sat_lits.specs.Truth.{clauses_value}
 use Rattle.sat_lits.specs.declared.literal.InLit.{InLit}
+use Rattle.sat_lits.specs.declared.literal.OwnLit.{OwnLit}
 use Rattle.sat_lits.specs.declared.formula.Item.{Item}
 use Rattle.sat_lits.specs.declared.shared.Shared.{Shared}
 use Rattle.rebuild_stack.specs.Values.{own_value}
@@ -13,7 +14,7 @@ use Rattle.var_maps.specs.Maps.{Maps, no_maps, plain}
 use Rattle.state_laws.specs.declared.definition.Definition.{Definition}
 use Rattle.state_laws.specs.State.{State, outers_from}
 use Rattle.state_laws.specs.Stands.{Stands}
-use Rattle.state_laws.specs.Held.{own_clauses, touches}
+use Rattle.state_laws.specs.Held.{own_clause, own_clauses, touches}
 
 -- the items and the shared entries taken, the definition of each own variable, the maps of its variables' numbers, the stored clauses, the stack of variables that left them, and whether the state is okay
 pub record Kernel : Type 0 where
@@ -53,11 +54,12 @@ pub record Standing (k : Kernel) : Type 0 where
 abbrev pub plain_kernel : Kernel → Kernel
 plain_kernel k = record k { maps = plain k.maps; store = record k.store { given = 0 } }
 
--- one clause was added as the last one, under a new id
-pub record Gives (k n : Kernel) (learned : Bool) (id : ℕ) : Type 0 where
+-- a clause was learned: it is the last one, under a new id, and its literals are these in own numbers
+pub record Learns (k n : Kernel) (c : List OwnLit) (id : ℕ) : Type 0 where
   pub lits : List InLit
-  pub held : n.store.held ≡ k.store.held ++ held_as id learned lits ∷ []
+  pub held : n.store.held ≡ k.store.held ++ held_as id true lits ∷ []
   pub fresh : k.store.given ≤ id
+  pub own : own_clause k.maps lits ≡ c
 
 -- clauses that do not hold the variable keep their ids and their order, and new ones stand behind them under new ids
 pub record Keeps (k n : Kernel) (v : ℕ) : Type 0 where
