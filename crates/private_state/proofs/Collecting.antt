@@ -1,5 +1,5 @@
 -- What a walk over a store collects.
-use Rattle.std.proofs.Common.{◌≡◌, ℕ, zero, suc, ◌+◌, ◌-◌, ◌<◌, ◌≤◌, ◌==◌, Bool, true, false, cond, not, ◌||◌, List, [], ◌∷◌, ◌++◌, Option, Some, None, refl, sym, ap, ap₂, subst, ◌∙◌, arith, length, get_or, take, filter, map, option_map, option_to_list, is_some, IfSome, IsTrue, append-nil, length-append, eqb-true, eq-eqb, ne_eqb}
+use Rattle.std.proofs.Common.{◌≡◌, ℕ, zero, suc, ◌+◌, ◌-◌, ◌<◌, ◌≤◌, ◌==◌, Bool, true, false, cond, not, ◌||◌, List, [], ◌∷◌, ◌++◌, Option, Some, None, refl, sym, ap, ap₂, ◌∙◌, arith, length, get_or, take, filter, map, option_map, option_to_list, IfSome, IsTrue, append-nil, length-append, eqb-true, eq-eqb, ne_eqb}
 use Rattle.std.proofs.lemmas.Bool.{and_parts, and_from, eqb-false}
 use Rattle.std.proofs.lemmas.List.{map-append}
 use Rattle.std.proofs.lemmas.List.Elements.{filter-append, filter_map-append}
@@ -7,7 +7,6 @@ use Rattle.std.proofs.lemmas.Grind.{take_at_read}
 use Rattle.std.specs.List.{list_all, list_any, slice_get, cons_option}
 use Rattle.sat_lits.specs.InLits.{is_distinct}
 use Rattle.sat_lits.specs.ListLaws.{all_push, any_map, any_same}
-use Rattle.sat_lits.specs.declared.literal.Lit.{Lit}
 use Rattle.sat_lits.specs.declared.literal.Own.{Own}
 use Rattle.sat_lits.specs.declared.literal.OwnLit.{OwnLit}
 use Rattle.sat_lits.specs.declared.literal.InLit.{InLit}
@@ -19,7 +18,7 @@ use Rattle.rebuild_stack.specs.PutInLaws.{put_in_passes, put_in_clean}
 use Rattle.rebuild_stack.specs.declared.entry.Root.{Root}
 use Rattle.clause_store.specs.Store.{Store, Held, clause_at, is_live, before, without}
 use Rattle.var_maps.specs.Maps.{Maps, Matched, inner_at, owner_at}
-use Rattle.state_laws.specs.Held.{InClause, OwnClause, own_or, own_clause, own_of, own_outer, has_inner, touches, strip, in_own, relisted, put_each, is_ready, numbers, without_ids, Collected}
+use Rattle.state_laws.specs.Held.{OwnClause, own_or, own_clause, own_of, has_inner, touches, strip, in_own, relisted, put_each, is_ready, numbers, without_ids}
 use Rattle.state_laws.specs.HeldLaws.{found, all_found, without_more}
 use Rattle.state_laws.specs.Resolution.{mentions, is_of}
 use Rattle.state_laws.specs.ViewLaws.{clean_distinct}
@@ -70,14 +69,18 @@ same_variable m v i j h e = go (owner_at m j) refl
   where
     same_own : (x y : Own) → Some x ≡ Some y → x ≡ y
     same_own x y q = cc
+
     same_inner : (x y : Inner) → Some x ≡ Some y → x ≡ y
     same_inner x y q = cc
+
     none : (x : Own) → None ≡ Some x → ⊥
     none x q = cc
+
     within : (xs : List (Option Inner)) (k : ℕ) → get_or xs k None ≡ Some i → k < length xs
     within [] k q = cc
     within (x ∷ xs) zero q = omega arith
     within (x ∷ xs) (suc k) q = let a : k < length xs = within xs k q in omega arith
+
     go : (o : Option Own) → owner_at m j ≡ o → ((own_or (length m.inners) o).0 == v) ≡ (j == i.0)
     go None q = ne_eqb (length m.inners) v (λ z. absurd (let a : v < length m.inners = within m.inners v e in omega arith)) ∙ sym (ne_eqb j i.0 (λ z. none (record { 0 = v }) (sym q ∙ (ap (owner_at m) z ∙ h.inner_owner v i e))))
     go (Some w) q = both (w.0 == v) refl
@@ -98,21 +101,23 @@ pub collected_step : (m : Maps) (r : OwnLit → Root) (v : ℕ) (hs : List Held)
 collected_step m r v hs h from to o id t p n f d e c =
     record {
       collected = record {
-          doomed = ap numbers d ∙ (map-append (λ (i : ClauseId). i.0) from.doomed.items (id ∷ []) ∙ (ap₂ {C = List ℕ} (λ x y. x ++ y ∷ []) c.collected.doomed (sym e)
-              ∙ (sym (map-append (λ (k : Held). k.id) (filter (touches m v) hs) (h ∷ [])) ∙ ap (map (λ (k : Held). k.id)) (sym more))));
-          become = ap (λ z. map (in_own m) (in_clauses z)) f ∙ (ap (map (in_own m)) (map-append in_clause from.fresh.items (option_to_list o)) ∙ (map-append (in_own m) (in_clauses from.fresh.items) (in_clauses (option_to_list o))
-              ∙ (ap₂ {C = List OwnClause} ◌++◌ c.collected.become (last o (relisted h.learned (put_in r (own_clause m h.lits))) p)
-              ∙ (sym (filter_map-append (λ (x : OwnClause). relisted x.learned (put_in r x.lits)) (map (λ k. in_own m (strip k)) (filter (touches m v) hs)) (in_own m (strip h) ∷ []))
-              ∙ ap (put_each r) (sym (map-append (λ (k : Held). in_own m (strip k)) (filter (touches m v) hs) (h ∷ [])) ∙ ap (map (λ (k : Held). in_own m (strip k))) (sym more))))));
-        };
+        doomed = ap numbers d ∙ (map-append (λ (i : ClauseId). i.0) from.doomed.items (id ∷ []) ∙ (ap₂ {C = List ℕ} (λ x y. x ++ y ∷ []) c.collected.doomed (sym e)
+            ∙ (sym (map-append (λ (k : Held). k.id) (filter (touches m v) hs) (h ∷ [])) ∙ ap (map (λ (k : Held). k.id)) (sym more))));
+        become = ap (λ z. map (in_own m) (in_clauses z)) f ∙ (ap (map (in_own m)) (map-append in_clause from.fresh.items (option_to_list o)) ∙ (map-append (in_own m) (in_clauses from.fresh.items) (in_clauses (option_to_list o))
+            ∙ (ap₂ {C = List OwnClause} ◌++◌ c.collected.become (last o (relisted h.learned (put_in r (own_clause m h.lits))) p)
+            ∙ (sym (filter_map-append (λ (x : OwnClause). relisted x.learned (put_in r x.lits)) (map (λ k. in_own m (strip k)) (filter (touches m v) hs)) (in_own m (strip h) ∷ []))
+            ∙ ap (put_each r) (sym (map-append (λ (k : Held). in_own m (strip k)) (filter (touches m v) hs) (h ∷ [])) ∙ ap (map (λ (k : Held). in_own m (strip k))) (sym more))))));
+      };
       distinct = ap are_distinct f ∙ both from.fresh.items o c.distinct n;
     }
   where
     more : filter (touches m v) (hs ++ h ∷ []) ≡ filter (touches m v) hs ++ h ∷ []
     more = filter-append (touches m v) hs (h ∷ []) ∙ ap (λ b. filter (touches m v) hs ++ cond b (h ∷ []) []) t
+
     last : (o : Option Fresh) (q : Option OwnClause) → option_map (λ f. in_own m (in_clause f)) o ≡ q → map (in_own m) (in_clauses (option_to_list o)) ≡ cons_option q []
     last None q e = ap (λ z. cons_option z []) e
     last (Some x) q e = ap (λ z. cons_option z []) e
+
     both : (fs : List Fresh) (o : Option Fresh) → are_distinct fs ≡ true → are_distinct (option_to_list o) ≡ true → are_distinct (fs ++ option_to_list o) ≡ true
     both fs None a b = ap are_distinct (append-nil fs) ∙ a
     both fs (Some x) a b = all_push (λ (f : Fresh). is_distinct f.lits) fs x a ((and_parts (is_distinct x.lits) true b).0)
@@ -122,9 +127,9 @@ pub collected_skip : (m : Maps) (r : OwnLit → Root) (v : ℕ) (hs : List Held)
 collected_skip m r v hs h from t c =
     record {
       collected = record {
-          doomed = c.collected.doomed ∙ ap (map (λ (k : Held). k.id)) more;
-          become = c.collected.become ∙ ap (λ z. put_each r (map (λ k. in_own m (strip k)) z)) more;
-        };
+        doomed = c.collected.doomed ∙ ap (map (λ (k : Held). k.id)) more;
+        become = c.collected.become ∙ ap (λ z. put_each r (map (λ k. in_own m (strip k)) z)) more;
+      };
       distinct = c.distinct;
     }
   where

@@ -1,5 +1,5 @@
 -- Where replacements lead to.
-use Rattle.std.proofs.Common.{◌≡◌, ℕ, suc, ◌+◌, ◌<◌, ◌≤◌, ◌==◌, Bool, true, false, not, cond, ◌||◌, List, [], ◌∷◌, ◌++◌, Option, Some, None, ◌&&◌, refl, sym, ap, ap₂, subst, ◌∙◌, arith, length, get_or, set, eqb-true, eq-eqb, ne_eqb, get_or-set_same, get_or-set_other}
+use Rattle.std.proofs.Common.{◌≡◌, ℕ, suc, ◌+◌, ◌<◌, ◌≤◌, ◌==◌, Bool, true, false, cond, ◌||◌, List, [], ◌∷◌, ◌++◌, Option, Some, None, ◌&&◌, refl, sym, ap, ap₂, ◌∙◌, arith, length, get_or, set, eqb-true, eq-eqb, ne_eqb, get_or-set_same, get_or-set_other}
 use Rattle.std.proofs.lemmas.Bool.{and_parts, or_parts, true≢false, eqb-false}
 use Rattle.std.specs.List.{list_any}
 use Rattle.sat_lits.specs.Truth.{signed}
@@ -13,8 +13,8 @@ use Rattle.rebuild_stack.specs.declared.entry.Entry.{Entry}
 use Rattle.rebuild_stack.specs.declared.entry.Entry.TheVariants.{Fix, Equal, Gone}
 use Rattle.rebuild_stack.specs.declared.entry.Root.{Root}
 use Rattle.rebuild_stack.specs.declared.entry.Root.TheVariants.{Known, Last, Lost}
-use Rattle.state_laws.specs.RootTableLaws.{entry_of, depth, entry_of-named, entry_of-none, entry_of-push, root_without_entry, root_fixed, root_gone, root_replaced, depth_replaced, AreOnce}
-use Rattle.private_state.specs.Removed.{IsInOrder, last_lit, fixed_value}
+use Rattle.state_laws.specs.RootTableLaws.{entry_of, depth, entry_of-named, entry_of-push, root_without_entry, root_fixed, root_gone, depth_replaced, AreOnce}
+use Rattle.private_state.specs.Removed.{last_lit, fixed_value}
 use Rattle.private_state.specs.Statuses.{status_of, IsEnd}
 use Rattle.private_state.specs.declared.removed.Status.{Status}
 use Rattle.private_state.specs.declared.removed.Status.TheVariants.{Kept, Fixed, Replaced, Eliminated}
@@ -85,14 +85,17 @@ last_replaced active (e ∷ newer) l v k c o h = go (names l.var.0 e) refl (last
     newer_order q =
         let p : (others_pass (λ j. active j || list_any (names j) newer) e ≡ true) × (ordered active newer ≡ true) = and_parts _ _ q in
         p.1
+
     bound : depth k.var.0 (e ∷ newer) < depth l.var.0 (e ∷ newer)
     bound = depth_replaced active (e ∷ newer) l.var.0 v k c o h
+
     here : names l.var.0 e ≡ true → e ≡ Equal v k → last_lit (e ∷ newer) l ≡ last_lit (e ∷ newer) (turned l.negative k)
     here n q =
         ap (λ (x : Entry). last_lit (x ∷ newer) l) q
         ∙ (cond_here (l.var.0 == v.0) (last_lit newer (turned l.negative k)) (last_lit newer l) (sym (ap (names l.var.0) q) ∙ n)
         ∙ sym (last_skip e newer (turned l.negative k) (deeper k.var.0 e newer
         (let d : depth l.var.0 (e ∷ newer) ≡ suc (length newer) = cond_here (names l.var.0 e) (suc (length newer)) (depth l.var.0 newer) n in let b : depth k.var.0 (e ∷ newer) < depth l.var.0 (e ∷ newer) = bound in omega arith))))
+
     go : (b : Bool) → names l.var.0 e ≡ b → (entry_of l.var.0 newer ≡ Some (Equal v k) → last_lit newer l ≡ last_lit newer (turned l.negative k)) → cond b (Some e) (entry_of l.var.0 newer) ≡ Some (Equal v k)
         → last_lit (e ∷ newer) l ≡ last_lit (e ∷ newer) (turned l.negative k)
     go true n r q = here n (some_entry e (Equal v k) q)
@@ -111,6 +114,7 @@ last_end active (e ∷ newer) l c h = go (names l.var.0 e) refl (last_end active
     at (Fix k) i r = r
     at (Equal v k) i r = absurd i
     at (Gone v cs) i r = r
+
     go : (b : Bool) → names l.var.0 e ≡ b → (IsEnd (status_of (entry_of l.var.0 newer)) → last_lit newer l ≡ l) → IsEnd (status_of (cond b (Some e) (entry_of l.var.0 newer))) → last_lit (e ∷ newer) l ≡ l
     go true n r i = at e i (last_without_entry newer l (named_once active e newer l.var.0 c n))
     go false n r i = last_skip e newer l n ∙ r i
@@ -127,6 +131,7 @@ root_end s l i = go (entry_of l.var.0 s) refl i
   where
     same : (v : Own) → l.var.0 ≡ v.0 → v ≡ l.var
     same v q = ap (λ (n : ℕ). let w : Own = record { 0 = n } in w) (sym q)
+
     go : (o : Option Entry) → entry_of l.var.0 s ≡ o → IsEnd (status_of o) → root s l ≡ root_by_status l (status_of o)
     go None e i = root_without_entry s l e
     go (Some (Fix k)) e i = root_fixed s l k e
@@ -176,10 +181,12 @@ block_status active (e ∷ newer) v c = go (names v.0 e) refl (block_status acti
     this (Fix k) n = refl
     this (Equal w k) n = refl
     this (Gone w cs) n = ap (λ (b : Bool). b || false) (sym (eq-eqb w.0 v.0 n))
+
     other : (e : Entry) → (named e ≡ v.0 → ⊥) → is_block_of v e ≡ false
     other (Fix k) n = refl
     other (Equal w k) n = refl
     other (Gone w cs) n = ne_eqb w.0 v.0 n
+
     go : (b : Bool) → names v.0 e ≡ b → is_eliminated (status_of (entry_of v.0 newer)) ≡ list_any (is_block_of v) newer → is_eliminated (status_of (cond b (Some e) (entry_of v.0 newer))) ≡ (is_block_of v e || list_any (is_block_of v) newer)
     go true n r = this e (sym (eqb-true _ _ n)) ∙ ap (λ (b : Bool). is_block_of v e || b) (sym (no_block newer v (named_once active e newer v.0 c n)))
     go false n r = r ∙ ap (λ (b : Bool). b || list_any (is_block_of v) newer) (sym (other e (λ q. eqb-false v.0 (named e) n (sym q))))

@@ -1,5 +1,5 @@
 -- What a kernel that stands lets its moves do.
-use Rattle.std.proofs.Common.{◌≡◌, ℕ, ◌+◌, ◌<◌, ◌≤◌, Bool, true, false, cond, List, [], ◌∷◌, ◌++◌, Option, Some, None, refl, sym, ap, subst, ◌∙◌, arith, length, map, is_some, option_map, option_to_list, take, drop, append-nil, drop_of_length-le, take_all}
+use Rattle.std.proofs.Common.{◌≡◌, ℕ, ◌+◌, ◌<◌, ◌≤◌, true, false, cond, List, ◌++◌, Option, Some, None, refl, sym, ap, subst, ◌∙◌, arith, length, map, is_some, option_map, option_to_list, take, drop, append-nil, drop_of_length-le, take_all}
 use Rattle.std.specs.Prelude.{if◌then◌else◌, is_ok, Result, Ok}
 use Rattle.std.specs.List.{list_all, list_any}
 use Rattle.sat_lits.specs.ListLaws.{all_mono}
@@ -7,7 +7,6 @@ use Rattle.sat_lits.specs.declared.literal.OwnLit.{OwnLit}
 use Rattle.sat_lits.specs.declared.literal.InLit.{InLit}
 use Rattle.rebuild_stack.specs.Entries.{names, times_named}
 use Rattle.rebuild_stack.specs.OrderLaws.{unnamed}
-use Rattle.rebuild_stack.specs.PutIn.{is_clean}
 use Rattle.rebuild_stack.specs.declared.entry.Entry.{Entry}
 use Rattle.clause_store.specs.Store.{Store}
 use Rattle.var_maps.specs.Maps.{Maps, plain}
@@ -26,6 +25,7 @@ plain-Standing k n e h = out (subst (λ (z : Kernel). Standing z) (sym e) into)
   where
     into : Standing (plain_kernel k)
     into = record { stands = h.stands; outers = h.outers; private = h.private }
+
     out : Standing (plain_kernel n) → Standing n
     out p = record { stands = p.stands; outers = p.outers; private = p.private }
 

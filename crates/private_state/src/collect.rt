@@ -43,7 +43,11 @@ pub(crate) fn drop_all(store: &mut ClauseStore, ids: &[ClauseId])
 }
 
 /// Adds the clauses in order, and keeps their ids, as far as memory goes.
-fn add_some(store: &mut ClauseStore, fresh: &[Fresh], ids: &mut Vec<ClauseId>) -> Result<(), NoMemory>
+fn add_some(
+    store: &mut ClauseStore,
+    fresh: &[Fresh],
+    ids: &mut Vec<ClauseId>,
+) -> Result<(), NoMemory>
     requires empty { ids.old.items ≡ [] }
     requires distinct { are_distinct fresh.now ≡ true }
     ensures some { (n : ℕ) × Adds store.old store.new ids.new.items (take n (in_clauses fresh.now)) }
@@ -58,7 +62,11 @@ fn add_some(store: &mut ClauseStore, fresh: &[Fresh], ids: &mut Vec<ClauseId>) -
 }
 
 /// Adds all the clauses, and tells their ids, or none of them.
-pub(crate) fn add_all(alloc: Global, store: &mut ClauseStore, fresh: &[Fresh]) -> Result<Vec<ClauseId>, NoMemory>
+pub(crate) fn add_all(
+    alloc: Global,
+    store: &mut ClauseStore,
+    fresh: &[Fresh],
+) -> Result<Vec<ClauseId>, NoMemory>
     requires kept { IsKept store.old }
     requires distinct { are_distinct fresh.now ≡ true }
     ensures ok { IfOk result (λ ids. Adds store.old store.new ids.items (in_clauses fresh.now)) }
@@ -73,7 +81,12 @@ pub(crate) fn add_all(alloc: Global, store: &mut ClauseStore, fresh: &[Fresh]) -
 }
 
 /// What putting an entry in makes of a stored clause, as it is to be stored.
-fn put_in_stored(alloc: Global, maps: &VarMaps, entry: &Entry, lits: &[InLit]) -> Result<Option<List<InLit>>, NoMemory>
+fn put_in_stored(
+    alloc: Global,
+    maps: &VarMaps,
+    entry: &Entry,
+    lits: &[InLit],
+) -> Result<Option<List<InLit>>, NoMemory>
     requires { list_all (λ l. root_passes (has_inner maps.now) (root (entry.now ∷ []) l)) (own_clause maps.now lits.now) ≡ true }
     ensures value { IfOk result (λ stored. option_map (own_clause maps.now) stored ≡ put_in (root (entry.now ∷ [])) (own_clause maps.now lits.now)) }
     ensures distinct { IfOk result (λ stored. IfSome stored (λ clause. IsTrue (is_distinct clause))) }
@@ -87,7 +100,15 @@ fn put_in_stored(alloc: Global, maps: &VarMaps, entry: &Entry, lits: &[InLit]) -
 }
 
 /// What putting an entry in makes of one clause.
-fn collect_one(alloc: Global, maps: &VarMaps, store: &ClauseStore, entry: &Entry, var: Inner, id: ClauseId, to: &mut Changes) -> Result<(), NoMemory>
+fn collect_one(
+    alloc: Global,
+    maps: &VarMaps,
+    store: &ClauseStore,
+    entry: &Entry,
+    var: Inner,
+    id: ClauseId,
+    to: &mut Changes,
+) -> Result<(), NoMemory>
     requires live { IsTrue (is_live store.now.held id.0) }
     requires matched { Matched maps.now }
     requires var { inner_at maps.now (named entry.now) ≡ Some var }
@@ -107,7 +128,12 @@ fn collect_one(alloc: Global, maps: &VarMaps, store: &ClauseStore, entry: &Entry
 }
 
 /// What putting an entry in makes of the clauses that hold its variable.
-pub(crate) fn collect(alloc: Global, maps: &VarMaps, store: &ClauseStore, entry: &Entry) -> Result<Changes, NoMemory>
+pub(crate) fn collect(
+    alloc: Global,
+    maps: &VarMaps,
+    store: &ClauseStore,
+    entry: &Entry,
+) -> Result<Changes, NoMemory>
     requires active { IsSome (inner_at maps.now (named entry.now)) }
     requires ready { list_all (is_ready maps.now (root (entry.now ∷ [])) (named entry.now)) store.now.held ≡ true }
     ensures collected { IfOk result (λ to. Collects maps.now (root (entry.now ∷ [])) (named entry.now) store.now.held to) }

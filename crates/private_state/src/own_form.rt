@@ -17,7 +17,12 @@ use var_maps::VarMaps;
 
 /// What a clause of the caller becomes along the stack, as it is to be stored. None comes exactly
 /// where it is satisfied or a tautology.
-pub(crate) fn own_form(alloc: Global, maps: &VarMaps, removed: &RemovedVars, lits: &[Lit]) -> Result<Option<List<InLit>>, NoMemory>
+pub(crate) fn own_form(
+    alloc: Global,
+    maps: &VarMaps,
+    removed: &RemovedVars,
+    lits: &[Lit],
+) -> Result<Option<List<InLit>>, NoMemory>
     requires there { list_all (λ l. nat_lt l.var.0 (length maps.now.outers)) lits.now ≡ true }
     requires order { IsInOrder removed.now.entries }
     requires active { option_passes (has_inner maps.now) (put_in (λ l. root removed.now.entries (own_outer maps.now l)) lits.now) ≡ true }
@@ -36,7 +41,10 @@ pub(crate) fn own_form(alloc: Global, maps: &VarMaps, removed: &RemovedVars, lit
 }
 
 /// Adds a hard clause, if there is one.
-pub(crate) fn add_hard(store: &mut ClauseStore, clause: &Option<List<InLit>>) -> Result<(), NoMemory>
+pub(crate) fn add_hard(
+    store: &mut ClauseStore,
+    clause: &Option<List<InLit>>,
+) -> Result<(), NoMemory>
     requires { IfSome clause.now (λ lits. IsTrue (is_distinct lits)) }
     ensures ok { OnOk result (ExtendsBy store.old store.new (map hard_in (option_to_list clause.now))) }
     ensures err { OnErr result (store.new ≡ store.old) }

@@ -21,7 +21,11 @@ fn own_lit(maps: &VarMaps, lit: InLit) -> OwnLit
 }
 
 /// A stored clause in own literals.
-pub(crate) fn own_lits(alloc: Global, maps: &VarMaps, lits: &[InLit]) -> Result<List<OwnLit>, NoMemory>
+pub(crate) fn own_lits(
+    alloc: Global,
+    maps: &VarMaps,
+    lits: &[InLit],
+) -> Result<List<OwnLit>, NoMemory>
     ensures { IfOk result (λ own. own ≡ own_clause maps.now lits.now) }
 {
     let mut own = List::new(alloc);
@@ -50,7 +54,11 @@ fn in_lit(maps: &VarMaps, lit: OwnLit) -> InLit
 }
 
 /// A clause over active variables as it is stored.
-pub(crate) fn in_lits(alloc: Global, maps: &VarMaps, lits: &[OwnLit]) -> Result<List<InLit>, NoMemory>
+pub(crate) fn in_lits(
+    alloc: Global,
+    maps: &VarMaps,
+    lits: &[OwnLit],
+) -> Result<List<InLit>, NoMemory>
     requires { list_all (has_inner maps.now) lits.now ≡ true }
     ensures { IfOk result (λ stored. own_clause maps.now stored ≡ lits.now) }
 {

@@ -26,7 +26,11 @@ pub(crate) fn turned(negative: bool, lit: OwnLit) -> OwnLit
 {
     OwnLit {
         var: lit.var,
-        negative: if negative { !lit.negative } else { lit.negative },
+        negative: if negative {
+            !lit.negative
+        } else {
+            lit.negative
+        },
     }
 }
 
@@ -37,7 +41,11 @@ pub(crate) fn root_by(entry: &Entry, lit: OwnLit) -> Root
     match entry {
         Entry::Fix(fixed) => {
             if lit.var == fixed.var {
-                return Root::Known(if lit.negative { fixed.negative } else { !fixed.negative });
+                return Root::Known(if lit.negative {
+                    fixed.negative
+                } else {
+                    !fixed.negative
+                });
             }
         }
         Entry::Equal { var, lit: by } => {
@@ -56,7 +64,11 @@ pub(crate) fn root_by(entry: &Entry, lit: OwnLit) -> Root
 
 /// Adds a literal to a clause that has none twice. `signs` has the sign of each of its literals by
 /// the number of the variable. False comes exactly where the negation stands there.
-fn add_lit(lits: &mut List<OwnLit>, signs: &mut HashMap<u32, bool>, lit: OwnLit) -> Result<bool, NoMemory>
+fn add_lit(
+    lits: &mut List<OwnLit>,
+    signs: &mut HashMap<u32, bool>,
+    lit: OwnLit,
+) -> Result<bool, NoMemory>
     requires { TellsSigns signs.old lits.old }
     ensures value { IfOk result (λ more. add_lit lit lits.old ≡ (if more then Some lits.new else None)) }
     ensures signs { IfOk result (λ more. IsTrue more → TellsSigns signs.new lits.new) }
@@ -71,7 +83,11 @@ fn add_lit(lits: &mut List<OwnLit>, signs: &mut HashMap<u32, bool>, lit: OwnLit)
 }
 
 /// Adds what a literal came to. False comes exactly where it settles the clause.
-fn add_root(lits: &mut List<OwnLit>, signs: &mut HashMap<u32, bool>, root: Root) -> Result<bool, NoMemory>
+fn add_root(
+    lits: &mut List<OwnLit>,
+    signs: &mut HashMap<u32, bool>,
+    root: Root,
+) -> Result<bool, NoMemory>
     requires { TellsSigns signs.old lits.old }
     ensures value { IfOk result (λ more. add_root root (Some lits.old) ≡ (if more then Some lits.new else None)) }
     ensures signs { IfOk result (λ more. IsTrue more → TellsSigns signs.new lits.new) }
@@ -100,7 +116,11 @@ pub(crate) fn put_in(alloc: Global, roots: &[Root]) -> Result<Option<List<OwnLit
 }
 
 /// The clause with one entry put in. None comes exactly where it is satisfied or a tautology.
-pub(crate) fn put_in_entry(alloc: Global, entry: &Entry, lits: &[OwnLit]) -> Result<Option<List<OwnLit>>, NoMemory>
+pub(crate) fn put_in_entry(
+    alloc: Global,
+    entry: &Entry,
+    lits: &[OwnLit],
+) -> Result<Option<List<OwnLit>>, NoMemory>
     ensures { IfOk result (λ clause. clause ≡ put_in (root (entry.now ∷ [])) lits.now) }
 {
     let mut roots = Vec::new(alloc);

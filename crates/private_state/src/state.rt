@@ -227,7 +227,7 @@ impl PrivateState {
         requires { IsImplied self.old id.0 }
         ensures { self.new ≡ record self.old { store = record self.old.store { held = without id.0 self.old.store.held } } }
     {
-        self.store.drop_clause(id);
+        self.store.drop_clause(id)
     }
 
     /// Fixes a literal of an active variable, which follows from the hard and the learned clauses:

@@ -14,7 +14,11 @@ fn value_of(values: &[bool], var: Own) -> bool
 }
 
 /// Own values from inner ones: false for a variable that is not active.
-pub(crate) fn own_values(alloc: Global, maps: &VarMaps, inner: &[bool]) -> Result<Vec<bool>, NoMemory>
+pub(crate) fn own_values(
+    alloc: Global,
+    maps: &VarMaps,
+    inner: &[bool],
+) -> Result<Vec<bool>, NoMemory>
     ensures values { IfOk result (λ own. own.items ≡ map (inner_value inner.now) maps.now.inners) }
     ensures matched { Matched maps.now }
 {
@@ -30,7 +34,11 @@ pub(crate) fn own_values(alloc: Global, maps: &VarMaps, inner: &[bool]) -> Resul
 }
 
 /// The values of the outer variables, in order.
-pub(crate) fn outer_values(alloc: Global, maps: &VarMaps, own: &[bool]) -> Result<List<bool>, NoMemory>
+pub(crate) fn outer_values(
+    alloc: Global,
+    maps: &VarMaps,
+    own: &[bool],
+) -> Result<List<bool>, NoMemory>
     ensures { IfOk result (λ outer. outer ≡ map (λ v. values_of own.now v.0) maps.now.outers) }
 {
     let mut outer = List::new(alloc);

@@ -1,4 +1,3 @@
-use Rattle.std.proofs.Common.{◌≡◌}
 use Rattle.state_laws.specs.HeldLaws.{rolled_back}
 use Rattle.private_state.proofs.collect.add_all.Goals as goal
 

@@ -1,4 +1,4 @@
-use Rattle.std.proofs.Common.{◌≡◌, ◌∙◌, ap, List, [], ◌∷◌, subst, Option, IfSome, IsTrue}
+use Rattle.std.proofs.Common.{◌∙◌, ap, List, [], ◌∷◌, subst, Option, IfSome, IsTrue}
 use Rattle.rebuild_stack.specs.Roots.{root}
 use Rattle.rebuild_stack.specs.Entries.{named}
 use Rattle.sat_lits.specs.declared.literal.ClauseId.{ClauseId}

@@ -1,4 +1,4 @@
-use Rattle.std.proofs.Common.{◌≡◌, ◌-◌, length, [], ◌∷◌, IfSome, IsTrue}
+use Rattle.std.proofs.Common.{◌-◌, length, [], ◌∷◌, IfSome, IsTrue}
 use Rattle.rebuild_stack.specs.Roots.{root}
 use Rattle.rebuild_stack.specs.Entries.{named}
 use Rattle.clause_store.specs.Store.{is_live, before}
@@ -9,7 +9,7 @@ abbrev pub invariant-walk : goal.invariant-walk
 invariant-walk l =
     record {
       live : IfSome l.at (λ id. IsTrue (is_live l.store.held id.0));
-      collected : Collects l.maps (root (l.entry ∷ [])) (named l.entry) (before l.store.held l.at) l.to
+      collected : Collects l.maps (root (l.entry ∷ [])) (named l.entry) (before l.store.held l.at) l.to;
     }
 
 abbrev pub decreases-walk : goal.decreases-walk

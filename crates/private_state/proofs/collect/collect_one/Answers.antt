@@ -4,7 +4,6 @@ use Rattle.sat_lits.specs.InLits.{is_distinct}
 use Rattle.sat_lits.specs.declared.literal.InLit.{InLit}
 use Rattle.rebuild_stack.specs.Roots.{root, root_passes}
 use Rattle.rebuild_stack.specs.Entries.{named}
-use Rattle.rebuild_stack.specs.PutIn.{put_in}
 use Rattle.clause_store.specs.Store.{Held, clause_at}
 use Rattle.state_laws.specs.Held.{own_clause, has_inner, touches}
 use Rattle.state_laws.specs.HeldLaws.{id_found}
@@ -26,22 +25,22 @@ returns-in_ok-push-2 c = λ hs d.
     let t : touches c.args.maps.now (named c.args.entry.now) h.0 ≡ true = touches_read c.args.maps.now (named c.args.entry.now) c.args.var h.0 c.lits-lits.result.now c.mentions.result c.requires.matched c.requires.var h.1.1 c.mentions.ensures ∙ c.if-mentions.true in
     rw h.1.0
     (elim c.match-branch-2.branch [
-      in-Some+in_ok-push w ↦
-        collected_step c.args.maps.now (root (c.args.entry.now ∷ [])) (named c.args.entry.now) hs h.0 c.args.to.now _ (fresh_of w.is_learned-learned.result (Some w.in-Some.lits)) c.args.id t
-        (fresh_put c.args.maps.now (root (c.args.entry.now ∷ [])) h.0 w.is_learned-learned.result (Some w.in-Some.lits) c.lits-lits.result.now h.1.1 (read_learned c.args.store.now.held c.args.id.0 h.0 w.is_learned-learned.result h.1.0 w.is_learned-learned.ensures.value)
-        (ap (option_map (own_clause c.args.maps.now)) (sym w.in-Some.is) ∙ c.in_ok-lits.ensures.value))
-        (fresh_distinct w.is_learned-learned.result (Some w.in-Some.lits) (subst (λ (o : Option (List InLit)). IfSome o (λ clause. IsTrue (is_distinct clause))) w.in-Some.is c.in_ok-lits.ensures.distinct))
-        (ap (λ (z : Changes). z.fresh.items) w.to-is ∙ w.in_ok-push.ensures.items)
-        (c.in_ok-push-2.ensures.items ∙ ap (λ (z : Changes). z.doomed.items ++ c.args.id ∷ []) w.to-is)
-        (id_found c.args.store.now.held c.args.id.0 h.0 h.1.0) d
-    | in_default w ↦
-        collected_step c.args.maps.now (root (c.args.entry.now ∷ [])) (named c.args.entry.now) hs h.0 c.args.to.now _ (fresh_of h.0.learned None) c.args.id t
-        (fresh_put c.args.maps.now (root (c.args.entry.now ∷ [])) h.0 h.0.learned None c.lits-lits.result.now h.1.1 refl
-        (ap (option_map (own_clause c.args.maps.now)) (sym w.in_default.is) ∙ c.in_ok-lits.ensures.value))
-        (fresh_distinct h.0.learned None tt)
-        (ap (λ (z : Changes). z.fresh.items) w.to-is ∙ sym (append-nil c.args.to.now.fresh.items))
-        (c.in_ok-push-2.ensures.items ∙ ap (λ (z : Changes). z.doomed.items ++ c.args.id ∷ []) w.to-is)
-        (id_found c.args.store.now.held c.args.id.0 h.0 h.1.0) d
+      | in-Some+in_ok-push w ↦
+          collected_step c.args.maps.now (root (c.args.entry.now ∷ [])) (named c.args.entry.now) hs h.0 c.args.to.now _ (fresh_of w.is_learned-learned.result (Some w.in-Some.lits)) c.args.id t
+          (fresh_put c.args.maps.now (root (c.args.entry.now ∷ [])) h.0 w.is_learned-learned.result (Some w.in-Some.lits) c.lits-lits.result.now h.1.1 (read_learned c.args.store.now.held c.args.id.0 h.0 w.is_learned-learned.result h.1.0 w.is_learned-learned.ensures.value)
+          (ap (option_map (own_clause c.args.maps.now)) (sym w.in-Some.is) ∙ c.in_ok-lits.ensures.value))
+          (fresh_distinct w.is_learned-learned.result (Some w.in-Some.lits) (subst (λ (o : Option (List InLit)). IfSome o (λ clause. IsTrue (is_distinct clause))) w.in-Some.is c.in_ok-lits.ensures.distinct))
+          (ap (λ (z : Changes). z.fresh.items) w.to-is ∙ w.in_ok-push.ensures.items)
+          (c.in_ok-push-2.ensures.items ∙ ap (λ (z : Changes). z.doomed.items ++ c.args.id ∷ []) w.to-is)
+          (id_found c.args.store.now.held c.args.id.0 h.0 h.1.0) d
+      | in_default w ↦
+          collected_step c.args.maps.now (root (c.args.entry.now ∷ [])) (named c.args.entry.now) hs h.0 c.args.to.now _ (fresh_of h.0.learned None) c.args.id t
+          (fresh_put c.args.maps.now (root (c.args.entry.now ∷ [])) h.0 h.0.learned None c.lits-lits.result.now h.1.1 refl
+          (ap (option_map (own_clause c.args.maps.now)) (sym w.in_default.is) ∙ c.in_ok-lits.ensures.value))
+          (fresh_distinct h.0.learned None tt)
+          (ap (λ (z : Changes). z.fresh.items) w.to-is ∙ sym (append-nil c.args.to.now.fresh.items))
+          (c.in_ok-push-2.ensures.items ∙ ap (λ (z : Changes). z.doomed.items ++ c.args.id ∷ []) w.to-is)
+          (id_found c.args.store.now.held c.args.id.0 h.0 h.1.0) d
     ])
 
 pub returns-else-mentions : goal.returns-else-mentions

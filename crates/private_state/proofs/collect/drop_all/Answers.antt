@@ -21,8 +21,8 @@ pub loop-id-preserved : goal.loop-id-preserved
 loop-id-preserved c =
     let d : ClauseId = record { 0 = 0 } in
     let step : dropped (get_or c.args.ids.now c.loop-id.id-index d) c.loop-id.store ≡ without_ids (numbers (take (c.loop-id.id-index + 1) c.args.ids.now)) c.args.store.now =
-        ap (dropped (get_or c.args.ids.now c.loop-id.id-index d)) c.loop-id.invariant ∙ sym (dropping c.args.store.now c.args.ids.now c.loop-id.id-index d c.loop-id-test.true) in
+    ap (dropped (get_or c.args.ids.now c.loop-id.id-index d)) c.loop-id.invariant ∙ sym (dropping c.args.store.now c.args.ids.now c.loop-id.id-index d c.loop-id-test.true) in
     elim c.if-is_live.branch [
-      then-is_live w ↦ w.store-is ∙ (w.drop_clause.ensures.rest ∙ step)
-    | else-is_live w ↦ w.store-is ∙ (stays c.loop-id.store (get_or c.args.ids.now c.loop-id.id-index d) (sym c.is_live.ensures.value ∙ w.if-is_live.false) ∙ step)
+      | then-is_live w ↦ w.store-is ∙ (w.drop_clause.ensures.rest ∙ step)
+      | else-is_live w ↦ w.store-is ∙ (stays c.loop-id.store (get_or c.args.ids.now c.loop-id.id-index d) (sym c.is_live.ensures.value ∙ w.if-is_live.false) ∙ step)
     ]

@@ -1,4 +1,4 @@
-use Rattle.std.proofs.Common.{◌≡◌, ◌∙◌, ap, sym, List, map, take, Some, None, Option, length, ◌≤◌, take_all}
+use Rattle.std.proofs.Common.{◌≡◌, ◌∙◌, ap, sym, List, map, take, Some, Option, length, ◌≤◌, take_all}
 use Rattle.sat_lits.specs.declared.literal.Lit.{Lit}
 use Rattle.sat_lits.specs.declared.literal.OwnLit.{OwnLit}
 use Rattle.rebuild_stack.specs.Roots.{root}

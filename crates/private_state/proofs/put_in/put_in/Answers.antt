@@ -1,5 +1,4 @@
-use Rattle.std.proofs.Common.{◌≡◌, ◌∙◌, ap, Bool, false, Some, None, if◌then◌else◌}
-use Rattle.rebuild_stack.specs.declared.entry.Root.{Root}
+use Rattle.std.proofs.Common.{◌∙◌, ap, Bool, false, Some, None, if◌then◌else◌}
 use Rattle.rebuild_stack.specs.declared.entry.Root.TheVariants.{Known}
 use Rattle.private_state.proofs.PuttingIn.{put_in_more, put_in_stuck}
 use Rattle.private_state.proofs.put_in.put_in.Goals as goal

@@ -7,5 +7,5 @@ abbrev pub invariant-merge : goal.invariant-merge
 invariant-merge l =
     record {
       merged : put_in (λ root. root) (take l.root-index l.roots) ≡ Some l.lits;
-      signs : TellsSigns l.signs l.lits
+      signs : TellsSigns l.signs l.lits;
     }

@@ -1,4 +1,4 @@
-use Rattle.std.proofs.Common.{◌≡◌, ◌∙◌, ◌<◌, Bool, List, ◌++◌, ◌∷◌, [], ap, length, subst, arith}
+use Rattle.std.proofs.Common.{◌∙◌, Bool, ◌++◌, ◌∷◌, [], ap, arith}
 use Rattle.rebuild_stack.specs.Values.{values_of}
 use Rattle.private_state.proofs.Collecting.{outer_value_step}
 use Rattle.private_state.proofs.values.outer_values.Goals as goal

@@ -1,7 +1,7 @@
-use Rattle.std.proofs.Common.{◌≡◌, ◌<◌, ◌∙◌, ap, sym, subst, Option, Some}
+use Rattle.std.proofs.Common.{◌≡◌, ◌<◌, ◌∙◌, ap, sym, subst, Some}
 use Rattle.sat_lits.specs.declared.literal.Own.{Own}
 use Rattle.sat_lits.specs.declared.literal.OwnLit.{OwnLit}
-use Rattle.rebuild_stack.specs.Roots.{root, turned}
+use Rattle.rebuild_stack.specs.Roots.{root}
 use Rattle.rebuild_stack.specs.declared.entry.Entry.TheVariants.{Equal}
 use Rattle.state_laws.specs.RootTableLaws.{entry_of, depth, depth_replaced, root_replaced}
 use Rattle.private_state.specs.Removed.{last_lit}

@@ -8,7 +8,7 @@ abbrev pub invariant-follow : goal.invariant-follow
 invariant-follow l =
     record {
       last : last_lit l.self.entries l.last ≡ last_lit l.self.entries l.fn.lit;
-      root : root l.self.entries l.last ≡ root l.self.entries l.fn.lit
+      root : root l.self.entries l.last ≡ root l.self.entries l.fn.lit;
     }
 
 abbrev pub decreases-follow : goal.decreases-follow

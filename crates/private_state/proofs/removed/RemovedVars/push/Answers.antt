@@ -1,10 +1,7 @@
-use Rattle.std.proofs.Common.{◌≡◌, ◌<◌, ◌∙◌, ℕ, List, ◌++◌, ◌∷◌, [], length, ap, sym, subst, false, arith}
+use Rattle.std.proofs.Common.{◌≡◌, ◌<◌, ◌∙◌, length, ap, sym, subst, false, arith}
 use Rattle.std.specs.List.{list_any}
 use Rattle.rebuild_stack.specs.Entries.{named, names}
-use Rattle.rebuild_stack.specs.declared.entry.Entry.{Entry}
-use Rattle.state_laws.specs.RootTableLaws.{entry_of}
 use Rattle.private_state.specs.Removed.{Removed}
-use Rattle.private_state.specs.RemovedKept.{removed_of}
 use Rattle.private_state.proofs.Following.{written}
 use Rattle.private_state.proofs.removed.RemovedVars.push.Goals as goal
 

@@ -1,7 +1,5 @@
-use Rattle.std.proofs.Common.{◌≡◌, ◌∙◌, Bool, ap, sym}
+use Rattle.std.proofs.Common.{◌∙◌, Bool, ap, sym}
 use Rattle.rebuild_stack.specs.declared.entry.Root.TheVariants.{Known}
-use Rattle.state_laws.specs.RootTableLaws.{entry_of}
-use Rattle.private_state.specs.Statuses.{status_of}
 use Rattle.private_state.proofs.Following.{root_by_status, root_end}
 use Rattle.private_state.proofs.removed.RemovedVars.root.Goals as goal
 

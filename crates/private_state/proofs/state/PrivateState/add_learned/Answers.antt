@@ -1,4 +1,4 @@
-use Rattle.std.proofs.Common.{◌≡◌, ◌∙◌, ap, sym, subst}
+use Rattle.std.proofs.Common.{◌∙◌, ap}
 use Rattle.rebuild_stack.specs.PutIn.{is_clean}
 use Rattle.state_laws.specs.ViewLaws.{clean_distinct}
 use Rattle.private_state.proofs.state.PrivateState.add_learned.Goals as goal

@@ -1,4 +1,4 @@
-use Rattle.std.proofs.Common.{◌≡◌, length, sym, subst}
+use Rattle.std.proofs.Common.{sym, subst}
 use Rattle.state_laws.specs.Kernel.{Kernel, IsLearnedId}
 use Rattle.state_laws.specs.KernelLearnLaws.{drop_learned-Standing}
 use Rattle.private_state.specs.Kept.{kernel_of}

@@ -1,11 +1,11 @@
-use Rattle.std.proofs.Common.{◌≡◌, ◌<◌, ◌≤◌, ◌+◌, ◌-◌, ◌^◌, ◌∙◌, refl, ap, sym, subst, List, ◌++◌, ◌∷◌, [], Option, Some, None, IfOk, Result, length, arith, vec_len, vec_capacity, length-append}
+use Rattle.std.proofs.Common.{◌≡◌, ◌+◌, ◌∙◌, refl, ap, sym, subst, List, ◌++◌, ◌∷◌, [], Option, Some, None, IfOk, Result, length, arith, length-append}
 use Rattle.sat_lits.specs.declared.literal.Own.{Own}
 use Rattle.sat_lits.specs.declared.literal.Var.{Var}
 use Rattle.sat_lits.specs.declared.list.NoMemory.{NoMemory}
 use Rattle.var_maps.specs.Maps.{Maps, Added}
 use Rattle.state_laws.specs.declared.definition.Definition.{Definition}
-use Rattle.state_laws.specs.State.{State, outers_from, outer_count}
-use Rattle.state_laws.specs.Moves.{extended, grown}
+use Rattle.state_laws.specs.State.{outers_from, outer_count}
+use Rattle.state_laws.specs.Moves.{extended}
 use Rattle.state_laws.specs.Kernel.{Kernel, Standing, state_of, plain_kernel}
 use Rattle.state_laws.specs.KernelTakeLaws.{outers_len}
 use Rattle.state_laws.specs.KernelExtendLaws.{with_outer, grown_state, grown-Standing}
@@ -42,10 +42,10 @@ pub each-init : goal.each-init
 each-init c =
     let n : Kernel = kernel_of (record c.self.inside { maps = c.reserve.new.self; definitions = c.reserve-2.new.self; removed = c.add_vars.new.self }) in
     let e : plain_kernel n ≡ plain_kernel (kernel_of c.self.inside) =
-        reserved_kernel (kernel_of c.self.inside) c.reserve.new.self c.reserve-2.new.self.items c.add_vars.new.self.entries c.reserve.ensures.same c.in_ok-reserve-2.ensures.items (ap (λ (r : Removed). r.entries) c.in_ok-add_vars.ensures.ok) in
+    reserved_kernel (kernel_of c.self.inside) c.reserve.new.self c.reserve-2.new.self.items c.add_vars.new.self.entries c.reserve.ensures.same c.in_ok-reserve-2.ensures.items (ap (λ (r : Removed). r.entries) c.in_ok-add_vars.ensures.ok) in
     let d : length c.self.inside.definitions.items ≡ length c.args.self.now.definitions = ap (λ (k : Kernel). length k.definitions) c.self.view_is in
     let o : c.outer_count.result ≡ outer_count c.args.self.now.definitions =
-        c.outer_count.ensures.value ∙ (outers_len (kernel_of c.self.inside) c.self.invariant.standing ∙ ap (λ (k : Kernel). length (outers_from 0 k.definitions)) c.self.view_is) in
+    c.outer_count.ensures.value ∙ (outers_len (kernel_of c.self.inside) c.self.invariant.standing ∙ ap (λ (k : Kernel). length (outers_from 0 k.definitions)) c.self.view_is) in
     record {
       state = plain_state (kernel_of c.self.inside) n e ∙ (ap state_of c.self.view_is ∙ sym (grown_none (state_of c.args.self.now)));
       standing = plain-Standing (kernel_of c.self.inside) n e c.self.invariant.standing;

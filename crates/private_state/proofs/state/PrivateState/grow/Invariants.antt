@@ -14,5 +14,5 @@ invariant-each l =
       fits : length l.fn.self.definitions + l.more ≤ 2 ^ 31;
       vars : l.self-inside.removed.vars ≡ length l.fn.self.definitions + l.more;
       room : l.more ≤ l.self-inside.maps.spare + l.counter;
-      capacity : vec_len l.self-inside.definitions + l.more ≤ vec_capacity l.self-inside.definitions + l.counter
+      capacity : vec_len l.self-inside.definitions + l.more ≤ vec_capacity l.self-inside.definitions + l.counter;
     }

@@ -1,4 +1,4 @@
-use Rattle.std.proofs.Common.{◌≡◌, ◌∙◌, refl, ap, sym, true, false, Bool, List}
+use Rattle.std.proofs.Common.{◌≡◌, ◌∙◌, refl, ap, sym, false}
 use Rattle.std.specs.List.{list_any}
 use Rattle.rebuild_stack.specs.Entries.{is_block_of}
 use Rattle.state_laws.specs.State.{is_active}

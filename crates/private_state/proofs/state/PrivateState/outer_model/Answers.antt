@@ -1,4 +1,4 @@
-use Rattle.std.proofs.Common.{◌≡◌, ◌∙◌, List, Bool, true, refl, sym, subst, ap, length}
+use Rattle.std.proofs.Common.{◌≡◌, ◌∙◌, true, refl, sym, subst, ap, length}
 use Rattle.sat_lits.specs.Truth.{clauses_value}
 use Rattle.sat_lits.specs.Meaning.{IsModel}
 use Rattle.clause_store.specs.Store.{hard_of}

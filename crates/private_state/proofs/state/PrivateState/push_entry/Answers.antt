@@ -1,12 +1,9 @@
-use Rattle.std.proofs.Common.{◌≡◌, ◌∙◌, ℕ, refl, ap, sym, subst, List, ◌++◌, ◌∷◌, []}
+use Rattle.std.proofs.Common.{◌≡◌, ◌∙◌, ℕ, refl, ap, sym, subst, List}
 use Rattle.rebuild_stack.specs.Entries.{named}
-use Rattle.rebuild_stack.specs.Roots.{root}
-use Rattle.rebuild_stack.specs.declared.entry.Entry.{Entry}
-use Rattle.clause_store.specs.Store.{Store, Held}
 use Rattle.var_maps.specs.Maps.{plain, retired}
 use Rattle.state_laws.specs.Conditions.{Pushable, EntryFollows}
 use Rattle.state_laws.specs.Moves.{put_into}
-use Rattle.state_laws.specs.Held.{Adds, ExtendsBy, numbers, without_ids}
+use Rattle.state_laws.specs.Held.{Adds, numbers, without_ids}
 use Rattle.state_laws.specs.HeldLaws.{Adds-ExtendsBy, rolled_back}
 use Rattle.state_laws.specs.Kernel.{Kernel, state_of, plain_kernel, Keeps}
 use Rattle.state_laws.specs.PutIntoLaws.{put_into-Stands}
