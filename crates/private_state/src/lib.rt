@@ -11,6 +11,8 @@ mod own_lits;
 mod put_in;
 mod removed;
 mod state;
+#[cfg(test)]
+mod tests;
 mod values;
 
 pub use state::PrivateState;
