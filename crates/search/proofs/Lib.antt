@@ -1,0 +1,15 @@
+pub mod Assuming
+pub mod Moves
+pub mod Using
+pub mod Orders
+pub mod Owning
+pub mod Starting
+pub mod Going
+pub mod Propagating
+pub mod Conflicting
+pub mod Jumping
+pub mod Deciding
+pub mod Failing
+pub mod Modelling
+pub mod Running
+pub mod Roots

@@ -1,0 +1,133 @@
+ghost use Rattle.std.specs.Prelude.{◌≡◌, ◌≤◌, ◌<◌, ◌+◌, ◌^◌, length, slice_index_or, take, IfOk, OnOk, OnErr, IsTrue};
+ghost use Rattle.trail.specs.Trail.{level_of};
+ghost use Rattle.propagate.specs.Units.{false_clause};
+ghost use Rattle.propagate.specs.Reasons.{names};
+ghost use Rattle.clause_store.specs.Store.{IsKept};
+ghost use Rattle.analyze.specs.Counting.{saturated};
+ghost use Rattle.analyze.specs.LearnedClauses.{ClauseFollows, IsLearned, has_each_once};
+ghost use Rattle.search_laws.specs.TrailNumber.{trail_number};
+ghost use Rattle.search.specs.InUse.{in_use, lits_among};
+ghost use Rattle.search.specs.Ordering.{lits_ordered, steps_ordered, HasSame};
+ghost use Rattle.search.specs.Learning.{HasAdded, HasLearned};
+ghost use Rattle.search.specs.Searching.{AtMove, EndsShort, gone_back};
+
+use crate::lists::own_lits;
+use crate::work::Work;
+use analyze::{Learned, Tally};
+use pick_order::PickOrder;
+use private_state::PrivateState;
+use sat_lits::{ClauseId, InLit, NoMemory};
+use std::alloc::Global;
+use trail::Trail;
+
+impl Work {
+    /// Learns a clause from a conflict above level 0, adds it to the state, goes back to where it
+    /// is unit, and assigns its literal.
+    pub fn learn_from(
+        &mut self,
+        state: &mut PrivateState,
+        conflict: ClauseId,
+        tally: &mut Tally,
+    ) -> Result<(), NoMemory>
+        requires at { AtMove state.old self.old }
+        requires conflict { IsTrue (names state.old.store.held conflict (false_clause self.old.trail.steps)) }
+        requires level { 0 < level_of self.old.trail.steps }
+        ensures at { OnOk result (AtMove state.new self.new) }
+        ensures learned { OnOk result (HasLearned state.old state.new 1) }
+        ensures counted { OnOk result (self.new.conflicts ≡ self.old.conflicts + 1) }
+        ensures tallied { OnOk result (tally.new ≡ saturated tally.old 1) }
+        ensures rises { OnOk result (trail_number (length (in_use state.old.maps)) self.old.trail.steps
+            < trail_number (length (in_use state.old.maps)) self.new.trail.steps) }
+        ensures assumptions { self.new.assumptions ≡ self.old.assumptions }
+        ensures err { OnErr result (EndsShort state.old state.new self.old.conflicts self.new.conflicts tally.old tally.new) }
+    {
+        let learned = self.analyze(state, conflict, tally)?;
+        let lits = learned.lits.as_slice();
+        let id = add_clause(self.assumptions.allocator(), state, lits)?;
+        self.watches.attach(state.clauses(), id)?;
+        self.go_back(learned.back);
+        self.trail.assign(lits[0], Some(id));
+        Ok(())
+    }
+
+    /// Learns a clause from a conflict above level 0, counts it, and prefers its variables from now
+    /// on.
+    fn analyze(
+        &mut self,
+        state: &PrivateState,
+        conflict: ClauseId,
+        tally: &mut Tally,
+    ) -> Result<Learned, NoMemory>
+        requires at { AtMove state.now self.old }
+        requires conflict { IsTrue (names state.now.store.held conflict (false_clause self.old.trail.steps)) }
+        requires level { 0 < level_of self.old.trail.steps }
+        ensures learned { IfOk result (λ learned. IsLearned state.now.store.held self.old.trail.steps learned.lits learned.back) }
+        ensures order { OnOk result (HasSame self.old.order self.new.order) }
+        ensures counted { OnOk result (self.new.conflicts ≡ saturated self.old.conflicts 1) }
+        ensures tallied { OnOk result (tally.new ≡ saturated tally.old 1) }
+        ensures conflicts { OnErr result (self.new.conflicts ≡ self.old.conflicts) }
+        ensures tally { OnErr result (tally.new ≡ tally.old) }
+        ensures same { self.new ≡ record self.old { order = self.new.order; analyzer = self.new.analyzer; conflicts = self.new.conflicts } }
+        ensures kept { IsKept state.now.store }
+        ensures range { OnOk result (self.old.conflicts < 2 ^ 64) }
+    {
+        let store = state.clauses();
+        bump_all(&mut self.order, store.lits(conflict));
+        let learned = self.analyzer.learn(store, &self.trail, conflict, tally)?;
+        self.conflicts = self.conflicts.saturating_add(1);
+        bump_all(&mut self.order, learned.lits.as_slice());
+        keep_phases(&mut self.order, &self.trail, learned.back);
+        Ok(learned)
+    }
+
+    /// Goes back to a level.
+    fn go_back(&mut self, level: u32)
+        ensures { self.new ≡ gone_back level self.old }
+    {
+        self.trail.back_to(level);
+        self.watches.rewind(self.trail.lits().len());
+        if let Some(next) = self.positions.as_slice().get(level as usize) {
+            self.next = *next;
+        }
+        self.positions.truncate(level as usize);
+    }
+}
+
+/// Adds a learned clause to a state, where it follows from the clauses that are held.
+fn add_clause(alloc: Global, state: &mut PrivateState, lits: &[InLit]) -> Result<ClauseId, NoMemory>
+    requires active { IsTrue (lits_among (in_use state.old.maps) lits.now) }
+    requires once { IsTrue (has_each_once lits.now) }
+    requires follows { ClauseFollows state.old.store.held lits.now }
+    ensures ok { IfOk result (λ id. HasAdded state.old state.new lits.now id.0) }
+    ensures range { IfOk result (λ id. id.0 < 2 ^ 64) }
+    ensures err { OnErr result (state.new ≡ state.old) }
+{
+    let own = own_lits(alloc, state.maps(), lits)?;
+    let id = state.add_learned(own.as_slice())?;
+    Ok(id)
+}
+
+/// Bumps the variables of literals.
+fn bump_all(order: &mut PickOrder, lits: &[InLit])
+    requires { IsTrue (lits_ordered order.old lits.now) }
+    ensures { HasSame order.old order.new }
+{
+    for lit in lits {
+        order.bump(lit.var);
+    }
+}
+
+/// Keeps the signs of the literals above a level, which are about to be taken back.
+fn keep_phases(order: &mut PickOrder, trail: &Trail, level: u32)
+    requires { IsTrue (steps_ordered order.old trail.now.steps) }
+    ensures { HasSame order.old order.new }
+{
+    let lits = trail.lits();
+    for place in (0..lits.len()).rev() {
+        let lit = lits[place];
+        if trail.level_of(lit.var) <= Some(level) {
+            return;
+        }
+        order.keep_phase(lit);
+    }
+}
