@@ -1,16 +1,23 @@
 -- What an answer says.
-use Rattle.std.specs.Prelude.{◌≡◌, Bool, true, not, List, map, Some, None}
+use Rattle.std.specs.Prelude.{◌≡◌, ℕ, ◌<◌, ◌≤◌, Bool, true, not, List, [], ◌∷◌, map, Some, None}
+use Rattle.sat_lits.specs.Conflicts.{own_count, enough}
 use Rattle.sat_lits.specs.Meaning.{Problem, IsModel}
 use Rattle.sat_lits.specs.Verdicts.{makes_true, IsRight}
 use Rattle.sat_lits.specs.declared.literal.Lit.{Lit}
 use Rattle.sat_lits.specs.declared.verdict.Verdict.TheVariants as verdict
+use Rattle.analyze.specs.Counting.{saturated}
+use Rattle.sat_api.specs.declared.solver.Cause.TheVariants.{Limit}
 use Rattle.sat_api.specs.declared.solver.Answer.{Answer}
-use Rattle.sat_api.specs.declared.solver.Answer.TheVariants.{Sat, Unsat}
+use Rattle.sat_api.specs.declared.solver.Answer.TheVariants.{Sat, Unsat, Unknown}
 use Rattle.sat_api.specs.State.{SolverState}
 
 -- the literal that is true where this one is false
 abbrev pub negated : Lit → Lit
 negated l = record { var = l.var; negative = not l.negative }
+
+-- a count rose by at least so much, or stands at its last value
+abbrev pub RoseBy : ℕ → ℕ → ℕ → Type 0
+RoseBy by before now = saturated before by ≤ now
 
 -- a model that makes every assumption true is left to be read
 pub record TellsModel (f : Problem) (assumptions : List Lit) (new : SolverState) : Type 0 where
@@ -26,10 +33,21 @@ pub record TellsConflict (f : Problem) (assumptions : List Lit) (new : SolverSta
   pub conflict : new.conflict ≡ Some (map negated failed)
   pub right : IsRight f assumptions (verdict.Unsat failed)
 
--- an answer is a right verdict, and its model or its conflict is left to be read
+-- the one solver counted the conflict limit, which is less than enough, and nothing is left to be read
+pub record TellsLimit (old new : SolverState) (counts : List ℕ) : Type 0 where
+  pub limit : ℕ
+  pub is_limit : old.max_conflicts ≡ Some limit
+  pub one : counts ≡ limit ∷ []
+  pub few : limit < enough (own_count old.problem)
+  pub rose : RoseBy limit old.counted new.counted
+  pub model : new.model ≡ None
+  pub conflict : new.conflict ≡ None
+
+-- an answer is a right verdict, and its model or its conflict is left to be read, or the conflict limit was spent
 abbrev pub Answers : SolverState → SolverState → List Lit → Answer → Type 0
 Answers old new assumptions Sat = TellsModel old.problem assumptions new
 Answers old new assumptions Unsat = TellsConflict old.problem assumptions new
+Answers old new assumptions (Unknown (Limit counts)) = TellsLimit old new counts
 
 -- a model that makes every assumption true
 abbrev pub HasModelUnder : Problem → List Lit → Type 0
@@ -39,3 +57,4 @@ HasModelUnder f assumptions = (values : List Bool) × IsModel f values × (makes
 abbrev pub Decides : Problem → List Lit → Answer → Type 0
 Decides f assumptions Sat = HasModelUnder f assumptions
 Decides f assumptions Unsat = HasModelUnder f assumptions → ⊥
+Decides f assumptions (Unknown cause) = Unit {0}

@@ -6,7 +6,7 @@ use Rattle.sat_lits.specs.Meaning.{is_true}
 use Rattle.sat_lits.specs.Verdicts.{makes_true, StandAt}
 use Rattle.sat_lits.specs.declared.literal.Lit.{Lit}
 use Rattle.sat_api.specs.declared.solver.Answer.{Answer}
-use Rattle.sat_api.specs.declared.solver.Answer.TheVariants.{Sat, Unsat}
+use Rattle.sat_api.specs.declared.solver.Answer.TheVariants.{Sat, Unsat, Unknown}
 use Rattle.sat_api.specs.State.{SolverState}
 use Rattle.sat_api.specs.Answers.{Answers, Decides}
 
@@ -30,3 +30,4 @@ pub Answers-decides : (old new : SolverState) (assumptions : List Lit) (answer :
 Answers-decides old new assumptions Sat told = (told.values, told.right.0, told.right.1)
 Answers-decides old new assumptions Unsat told =
     λ (values, model, made). true≢false (sym (makes_true-StandAt values assumptions told.right.positions told.failed told.right.places made) ∙ told.right.contradict values model)
+Answers-decides old new assumptions (Unknown cause) told = tt

@@ -4,24 +4,35 @@ ghost use Rattle.sat_lits.specs.declared.formula.Item.TheVariants.{Clause};
 ghost use Rattle.sat_lits.specs.Limits.{standard_limits};
 ghost use Rattle.sat_lits.specs.Meaning.{IsModel, Follows};
 ghost use Rattle.sat_lits.specs.Formulas.{with_vars, with_item, first_unknown, numbers_of, lit_count};
-ghost use Rattle.sat_api.specs.State.{unanswered, Keeps};
+ghost use Rattle.sat_api.specs.State.{new_solver, unanswered, with_problem, Keeps};
 ghost use Rattle.sat_api.specs.Answers.{Answers, Decides};
 
 use crate::error::ApiError;
 use crate::search::find_model;
+use analyze::Tally;
 use sat_lits::{Formula, Limits, List, Lit};
 use sat_ports::Alarm;
 use std::alloc::Global;
 use std::marker::Model;
 use std::thread::Threads;
 
+/// Why `solve` found neither.
+#[derive(Debug, Drop)]
+pub enum Cause {
+    /// Each solver made as many conflicts as the limit allows. There is one count for each solver,
+    /// and each is the limit.
+    Limit { counts: List<u64> },
+}
+
 /// What `solve` found.
-#[derive(Clone, Copy, Debug, PartialEq, Eq)]
+#[derive(Debug, Drop)]
 pub enum Answer {
     /// An assignment satisfies every item and every assumption.
     Sat,
     /// No assignment does.
     Unsat,
+    /// It is not known whether one does.
+    Unknown(Cause),
 }
 
 /// A solver: variables and clauses over them, within limits, and what the latest call answered.
@@ -32,6 +43,8 @@ pub enum Answer {
 pub struct SatSolver {
     alloc: Global,
     formula: Formula,
+    max_conflicts: Option<u64>,
+    tally: Tally,
     model: Option<List<bool>>,
     conflict: Option<List<Lit>>,
 }
@@ -49,13 +62,16 @@ impl Model for SatSolver {
 }
 
 impl SatSolver {
-    /// No variables and no items, with the standard limits. It takes no memory.
+    /// No variables and no items, with the standard limits and no conflict limit. It takes no
+    /// memory.
     pub fn new(alloc: Global) -> SatSolver
-        ensures { result ≡ unanswered (record { vars = 0; items = [] }) standard_limits }
+        ensures { result ≡ new_solver standard_limits }
     {
         SatSolver {
             alloc,
             formula: Formula::new(alloc, Limits::standard()),
+            max_conflicts: None,
+            tally: Tally::new(),
             model: None,
             conflict: None,
         }
@@ -63,7 +79,7 @@ impl SatSolver {
 
     /// Adds `by` variables. `TooManyVars` comes exactly where there would be more than the limit.
     pub fn new_vars(&mut self, by: u32) -> Result<(), ApiError>
-        ensures ok { OnOk result (self.new ≡ unanswered (with_vars by self.old.problem) self.old.limits) }
+        ensures ok { OnOk result (self.new ≡ with_problem (with_vars by self.old.problem) self.old) }
 
         ensures too_many_vars { (result ≡ Err ApiError.TooManyVars) ↔ (self.old.limits.vars < self.old.problem.vars + by) }
         ensures only { IfErr result (λ e. e ≡ ApiError.TooManyVars) }
@@ -81,7 +97,7 @@ impl SatSolver {
     /// `TooManyLits` exactly where else the literals of all items would be more than the limit;
     /// `Memory` last.
     pub fn add_clause(&mut self, lits: &[Lit]) -> Result<(), ApiError>
-        ensures ok { OnOk result (self.new ≡ unanswered (with_item (Clause lits.now) self.old.problem) self.old.limits) }
+        ensures ok { OnOk result (self.new ≡ with_problem (with_item (Clause lits.now) self.old.problem) self.old) }
 
         ensures no_such_var { (n : ℕ) → (result ≡ Err (ApiError.NoSuchVar n))
             ↔ (first_unknown self.old.problem.vars (numbers_of (Clause lits.now)) ≡ Some n) }
@@ -97,11 +113,20 @@ impl SatSolver {
         Ok(())
     }
 
+    /// Sets the number of conflicts that a solver may make in each later `solve`. None is no limit.
+    pub fn set_max_confl(&mut self, limit: Option<u64>)
+        ensures { self.new ≡ record self.old { max_conflicts = limit } }
+    {
+        self.max_conflicts = limit;
+    }
+
     /// Looks for an assignment that satisfies every item and every assumption.
     ///
-    /// After `Sat` the model is there to be read, and after `Unsat` the conflict. `Memory` is the
-    /// only error: then the items stand, and neither is there. No thread is started, and the alarm
-    /// is not asked.
+    /// After `Sat` the model is there to be read, and after `Unsat` the conflict. `Unknown` comes
+    /// only where a conflict limit is set, `conflicts` rose in this call by at least the limit, and
+    /// the limit is less than the number of conflicts that is enough to decide the formula. `Memory`
+    /// is the only error: then the items stand, and neither model nor conflict is there. No thread
+    /// is started, and the alarm is not asked.
     pub fn solve<R: Threads + Sync, A: Alarm + Send>(
         &mut self,
         rt: &R,
@@ -116,7 +141,7 @@ impl SatSolver {
         ensures raises { A.raises alarm.new ≡ A.raises alarm.old }
 
         ensures only { IfErr result (λ e. e ≡ ApiError.Memory) }
-        ensures err { OnErr result (self.new ≡ unanswered self.old.problem self.old.limits) }
+        ensures err { OnErr result (self.new ≡ unanswered (record self.old { counted = self.new.counted })) }
     {
         self.model = None;
         self.conflict = None;
@@ -130,6 +155,14 @@ impl SatSolver {
                 Ok(Answer::Unsat)
             }
         }
+    }
+
+    /// The number of conflicts that were made in all calls of `solve`. It never falls, and stays at
+    /// 18446744073709551615 once it is there.
+    pub fn conflicts(&self) -> u64
+        ensures { result ≡ self.now.counted }
+    {
+        self.tally.count()
     }
 
     /// The number of variables.

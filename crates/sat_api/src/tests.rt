@@ -37,6 +37,14 @@ fn solver_of(rt: &HostRuntime, vars: u32, clauses: &[&[Lit]]) -> Result<SatSolve
     Ok(solver)
 }
 
+fn is_sat(answer: &Answer) -> bool {
+    matches!(answer, Answer::Sat)
+}
+
+fn is_unsat(answer: &Answer) -> bool {
+    matches!(answer, Answer::Unsat)
+}
+
 #[test]
 fn answers(rt: HostRuntime) -> Result<(), Fail> {
     let rows: [(u32, &[&[Lit]], Option<&[bool]>); 4] = [
@@ -53,12 +61,12 @@ fn answers(rt: HostRuntime) -> Result<(), Fail> {
         let mut solver = solver_of(&rt, vars, clauses)?;
         let answer = solver.solve(&rt, &[], &mut Silent::new())?;
         let empty: &[Lit] = &[];
-        let (want, conflict) = match model {
-            Some(_) => (Answer::Sat, None),
-            None => (Answer::Unsat, Some(empty)),
+        let (is_wanted, conflict) = match model {
+            Some(_) => (is_sat(&answer), None),
+            None => (is_unsat(&answer), Some(empty)),
         };
         assert_eq!(rt; solver.n_vars(), vars, "of {clauses:?}");
-        assert_eq!(rt; answer, want, "of {clauses:?}");
+        assert!(rt; is_wanted, "{answer:?} of {clauses:?}");
         assert_eq!(rt; solver.get_model(), model, "of {clauses:?}");
         assert_eq!(rt; solver.get_conflict(), conflict, "of {clauses:?}");
     }
@@ -74,7 +82,7 @@ fn a_refusal_keeps_the_answer_and_an_addition_drops_it(rt: HostRuntime) -> Resul
         solver.add_clause(&[C]),
         Err(ApiError::NoSuchVar { var: 2 })
     );
-    assert_eq!(rt; solver.solve(&rt, &[], &mut Silent::new()), Ok(Answer::Sat));
+    assert!(rt; is_sat(&solver.solve(&rt, &[], &mut Silent::new())?));
     assert_eq!(rt;
         solver.add_clause(&[C]),
         Err(ApiError::NoSuchVar { var: 2 })
@@ -82,10 +90,7 @@ fn a_refusal_keeps_the_answer_and_an_addition_drops_it(rt: HostRuntime) -> Resul
     assert_eq!(rt; solver.get_model(), Some(both));
     solver.add_clause(&[NOT_A, NOT_B])?;
     assert_eq!(rt; solver.get_model(), None);
-    assert_eq!(rt;
-        solver.solve(&rt, &[], &mut Silent::new()),
-        Ok(Answer::Unsat)
-    );
+    assert!(rt; is_unsat(&solver.solve(&rt, &[], &mut Silent::new())?));
     assert_eq!(rt; solver.get_conflict(), Some(empty));
     Ok(())
 }
