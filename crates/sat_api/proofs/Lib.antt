@@ -1,3 +1,3 @@
-pub mod Counts
-pub mod Passed
 pub mod Refusals
+pub mod Calls
+pub mod Verdicts

@@ -1,4 +1,9 @@
 -- What the fields of a solver mean, and what they keep.
+use Rattle.std.specs.Prelude.{◌≡◌, ◌≤◌, true}
+use Rattle.std.specs.List.{list_all}
+use Rattle.sat_lits.specs.Formulas.{Extends}
+use Rattle.one_solver.specs.Basic.{is_clause}
+use Rattle.one_solver.specs.Parts.{problem_in}
 use Rattle.sat_api.specs.State.{SolverState, IsBacked}
 use Rattle.sat_api.specs.declared.solver.SatSolver.TheInside.{Inside}
 
@@ -12,5 +17,9 @@ state_of s = record {
   conflict = s.conflict;
 }
 
-abbrev pub IsKept : Inside → Type 0
-IsKept s = IsBacked (state_of s)
+-- what is left to be read is right, the solver took a front of the formula, and the items are clauses
+pub record IsKept (s : Inside) : Type 0 where
+  pub backed : IsBacked (state_of s)
+  pub front : Extends (problem_in s.solver) s.formula.problem
+  pub clauses : list_all is_clause s.formula.problem.items ≡ true
+  pub few : s.formula.limits.vars ≤ 16777215

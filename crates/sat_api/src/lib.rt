@@ -4,11 +4,11 @@
 //! More may be added after each answer, and the question asked again.
 #![tactic(auto)]
 
+mod decide;
 mod error;
-mod search;
 mod solver;
 #[cfg(test)]
 mod tests;
 
 pub use error::ApiError;
-pub use solver::{Answer, Cause, SatSolver};
+pub use solver::{Answer, Cause, SatSolver, negated};

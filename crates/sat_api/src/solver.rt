@@ -1,16 +1,17 @@
-ghost use Rattle.std.specs.Prelude.{◌≡◌, ◌≢◌, ◌+◌, ◌<◌, ◌↔◌, ℕ, [], Some, None, Err, length, IfOk, IfErr, IfSome, OnOk, OnErr};
+ghost use Rattle.std.specs.Prelude.{◌≡◌, ◌≢◌, ◌+◌, ◌<◌, ◌↔◌, ℕ, [], Some, None, Err, length, map, IfOk, IfErr, IfSome, OnOk, OnErr};
 ghost use Rattle.std.specs.Option.{option_copied};
 ghost use Rattle.sat_lits.specs.declared.formula.Item.TheVariants.{Clause};
 ghost use Rattle.sat_lits.specs.Limits.{standard_limits};
 ghost use Rattle.sat_lits.specs.Meaning.{IsModel, Follows};
 ghost use Rattle.sat_lits.specs.Formulas.{with_vars, with_item, first_unknown, numbers_of, lit_count};
 ghost use Rattle.sat_api.specs.State.{new_solver, unanswered, with_problem, Keeps};
-ghost use Rattle.sat_api.specs.Answers.{Answers, Decides};
+ghost use Rattle.sat_api.specs.Answers.{Answers, Decides, negated};
 
 use crate::error::ApiError;
-use crate::search::find_model;
+use crate::decide::{Found, decide};
 use analyze::Tally;
-use sat_lits::{Formula, Limits, List, Lit};
+use one_solver::OneSolver;
+use sat_lits::{Formula, Limits, List, Lit, NoMemory, Verdict};
 use sat_ports::Alarm;
 use std::alloc::Global;
 use std::marker::Model;
@@ -43,6 +44,7 @@ pub enum Answer {
 pub struct SatSolver {
     alloc: Global,
     formula: Formula,
+    solver: OneSolver,
     max_conflicts: Option<u64>,
     tally: Tally,
     model: Option<List<bool>>,
@@ -70,6 +72,7 @@ impl SatSolver {
         SatSolver {
             alloc,
             formula: Formula::new(alloc, Limits::standard()),
+            solver: OneSolver::new(alloc, 0),
             max_conflicts: None,
             tally: Tally::new(),
             model: None,
@@ -145,14 +148,28 @@ impl SatSolver {
     {
         self.model = None;
         self.conflict = None;
-        match find_model(self.alloc, &self.formula)? {
-            Some(values) => {
+        // That the variables are within the limit and the count has 64 bits is known from here on.
+        let _vars = self.formula.vars();
+        let _counted = self.tally.count();
+        let found = decide(
+            &mut self.solver,
+            &self.formula,
+            assumptions,
+            self.max_conflicts,
+        );
+        self.solver.pour(&mut self.tally);
+        match found? {
+            Found::Verdict(Verdict::Sat(values)) => {
                 self.model = Some(values);
                 Ok(Answer::Sat)
             }
-            None => {
-                self.conflict = Some(List::new(self.alloc));
+            Found::Verdict(Verdict::Unsat(failed)) => {
+                self.conflict = Some(negated(self.alloc, failed.as_slice())?);
                 Ok(Answer::Unsat)
+            }
+            Found::Spent { count } => {
+                let counts = List::from_slice(self.alloc, &[count])?;
+                Ok(Answer::Unknown(Cause::Limit { counts }))
             }
         }
     }
@@ -190,4 +207,18 @@ impl SatSolver {
     {
         self.conflict.as_ref().map(|lits| lits.as_slice())
     }
+}
+
+/// The literals with their signs turned. The only error is want of memory.
+pub fn negated(alloc: Global, lits: &[Lit]) -> Result<List<Lit>, NoMemory>
+    ensures { IfOk result (λ list. list ≡ map negated lits.now) }
+{
+    let mut turned = List::new(alloc);
+    for lit in lits {
+        turned.push(Lit {
+            var: lit.var,
+            negative: !lit.negative,
+        })?;
+    }
+    Ok(turned)
 }

@@ -1,0 +1,158 @@
+-- The conflicts of a call.
+use Rattle.std.proofs.Common.{◌≡◌, ◌⊎◌, inl, inr, ℕ, zero, suc, ◌+◌, ◌-◌, ◌^◌, ◌<◌, ◌≤◌, Bool, true, false, cond, List, [], ◌∷◌, Option, Some, None, refl, sym, ap, subst, ◌∙◌, ⊎_elim, length, map, sum, min, option_map, arith, rules, add-one, IfSome, ltb, ltb-true}
+use Rattle.std.specs.List.{range_with_len}
+use Rattle.std.specs.Option.{is_some}
+use Rattle.std.proofs.Math.Nat.{pow-le-pow_right}
+use Rattle.std.proofs.lemmas.Bool.{cases_lt}
+use Rattle.std.proofs.lemmas.List.{length-map}
+use Rattle.std.proofs.lemmas.List.FromFn.{sum_by-map-range_with_len_more}
+use Rattle.sat_lits.specs.Conflicts.{own_count, interval_len, intervals_len, intervals_for, enough}
+use Rattle.sat_lits.specs.ConflictLaws.{intervals_count, intervals_len_sum}
+use Rattle.sat_lits.specs.Verdicts.{IsFailed}
+use Rattle.sat_lits.specs.Meaning.{Problem}
+use Rattle.sat_lits.specs.declared.literal.Own.{Own}
+use Rattle.analyze.specs.Counting.{saturated}
+use Rattle.var_maps.specs.Maps.{Maps, Matched}
+use Rattle.state_laws.specs.State.{outer_count, problem_of}
+use Rattle.state_laws.specs.Kernel.{Kernel, state_of, Standing}
+use Rattle.search.specs.InUse.{owned_from, in_use}
+use Rattle.search.specs.Answers.{own_length, IsBelow}
+use Rattle.one_solver.specs.declared.answer.StepAnswer.{StepAnswer}
+use Rattle.one_solver.specs.declared.answer.StepAnswer.TheVariants.{Verdict, IntervalOver, Spent, Asked, Memory}
+use Rattle.one_solver.specs.Basic.{IsBasic}
+use Rattle.one_solver.specs.Parts.{Parts, problem_in}
+use Rattle.one_solver.specs.Steps.{IsUnderWay, EndsInterval, SpendsLimit, StepsRight, IsOverOrNone, HasNoModel}
+use Rattle.one_solver.proofs.Taking.{outer_length}
+
+-- no more numbers are in use than there are places
+owned_few : (n : ℕ) (xs : List (Option Own)) → length (owned_from n xs) ≤ length xs
+owned_few n [] = omega arith
+owned_few n (None ∷ xs) = let r : length (owned_from (suc n) xs) ≤ length xs = owned_few (suc n) xs in omega arith
+owned_few n (Some v ∷ xs) = let r : length (owned_from (suc n) xs) ≤ length xs = owned_few (suc n) xs in omega arith
+
+-- no more variables are active than the items may come to have
+pub active_few : (k : Kernel) → Matched k.maps → Standing k → IsBasic k → length (in_use k.maps) ≤ own_count (problem_of (state_of k))
+active_few k m s b =
+    let a : length (in_use k.maps) ≤ length k.maps.owners = owned_few 0 k.maps.owners in
+    let d : length (map is_some k.maps.inners) ≡ length k.definitions = s.stands.places.lengths in
+    omega (arith, m.inner_len, length-map k.maps.inners is_some, outer_length k b)
+
+-- one interval more adds its length
+longer : (n : ℕ) → intervals_len (suc n) ≡ intervals_len n + interval_len n
+longer n =
+    intervals_len_sum (suc n)
+    ∙ (sym (sym (sum_by-map-range_with_len_more (λ m. m) interval_len 0 n n (omega arith)) ∙ ap (λ m. sum (map interval_len (range_with_len 0 m))) (add-one n))
+    ∙ ap (λ m. m + interval_len n) (sym (intervals_len_sum n)))
+
+-- more intervals have no fewer conflicts
+grow : (i d : ℕ) → intervals_len i ≤ intervals_len (i + d)
+grow i zero = let e : intervals_len i ≡ intervals_len (i + 0) = ap intervals_len (let z : i ≡ i + 0 = omega arith in z) in omega arith
+grow i (suc d) =
+    let e : intervals_len (i + suc d) ≡ intervals_len (suc (i + d)) = ap intervals_len (let z : i + suc d ≡ suc (i + d) = omega arith in z) in
+    let f : intervals_len (suc (i + d)) ≡ intervals_len (i + d) + interval_len (i + d) = longer (i + d) in
+    let g : intervals_len i ≤ intervals_len (i + d) = grow i d in omega arith
+
+no_fewer : (i j : ℕ) → i ≤ j → intervals_len i ≤ intervals_len j
+no_fewer i j h = subst (λ (k : ℕ). intervals_len i ≤ intervals_len k) (let z : i + (j - i) ≡ j = omega arith in z) (grow i (j - i))
+
+-- intervals that were too short count
+they_count : (n i : ℕ) → i ≤ 2 ^ 20 → ((j : ℕ) → j < i → interval_len j < 3 ^ n) → i ≤ intervals_for n
+they_count n zero few short = omega arith
+they_count n (suc m) few short = let h : m < intervals_for n = (intervals_count n m).1 (omega arith, λ j l. short j (omega arith)) in omega arith
+
+-- so their conflicts and fewer than one such interval more are less than enough
+pub less_than_enough : (n i c : ℕ) → i ≤ 2 ^ 20 → ((j : ℕ) → j < i → interval_len j < 3 ^ n) → c < 3 ^ n → intervals_len i + c < enough n
+less_than_enough n i c few short below = let h : intervals_len i ≤ intervals_len (intervals_for n) = no_fewer i (intervals_for n) (they_count n i few short) in omega arith
+
+-- an interval of its own length is one of the first ones
+pub own_interval : (k c : ℕ) → own_length k ≡ Some c → (k < 2 ^ 20) × (c ≡ interval_len k)
+own_interval k c e = go (ltb k (2 ^ 20)) refl e
+  where
+    go : (b : Bool) → ltb k (2 ^ 20) ≡ b → cond b (Some (interval_len k)) None ≡ Some c → (k < 2 ^ 20) × (c ≡ interval_len k)
+    go true f g = (ltb-true k (2 ^ 20) f, some_same g)
+      where
+        some_same : ◌≡◌ {A = Option ℕ} (Some (interval_len k)) (Some c) → c ≡ interval_len k
+        some_same h = cc
+    go false f g = cc
+
+-- the number of conflicts that was left is the limit without those that were made
+left_some : (limit : Option ℕ) (made c : ℕ) → option_map (λ m. m - made) limit ≡ Some c → IfSome limit (λ m. made ≤ m) → (m : ℕ) × (limit ≡ Some m) × (m ≡ made + c)
+left_some None made c e h = cc
+left_some (Some m) made c e h = let d : m - made ≡ c = cc in (m, refl, omega arith)
+
+left_below : (limit : Option ℕ) (made c : ℕ) → IsBelow c (option_map (λ m. m - made) limit) → IfSome limit (λ m. made ≤ m) → IfSome limit (λ m. made + c < m)
+left_below None made c b h = b
+left_below (Some m) made c b h = omega arith
+
+at_some : (limit : Option ℕ) (m : ℕ) (P : ℕ → Type 0) → limit ≡ Some m → IfSome limit P → P m
+at_some limit m P e h = let Q : Option ℕ → Type 0 = λ o. IfSome o P in subst Q e h
+
+-- fewer conflicts than a power are fewer than a greater one
+fewer_than : (c a n : ℕ) → c < 3 ^ a → a ≤ n → c < 3 ^ n
+fewer_than c a n h l = let z : 0 < 3 = omega arith in let p : 3 ^ a ≤ 3 ^ n = pow-le-pow_right z l in omega arith
+
+-- the limit was spent
+pub spends : (old new : Parts) (limit : Option ℕ) (c a count : ℕ) → IsUnderWay old → IfSome limit (λ m. old.conflicts ≤ m) → IfSome limit (λ m. m < 2 ^ 64) → option_map (λ m. m - old.conflicts) limit ≡ Some c
+    → c < 3 ^ a → a ≤ own_count (problem_in old) → new.conflicts ≡ saturated old.conflicts c → count ≡ new.conflicts → SpendsLimit old new limit count
+spends old new limit c a count u w r e few active t s =
+    let (m, is, sum) = left_some limit old.conflicts c e w in
+    let most : m < 2 ^ 64 = at_some limit m (λ (x : ℕ). x < 2 ^ 64) is r in
+    let same : count ≡ m = omega arith in
+    let bound : intervals_len old.interval + c < enough (own_count (problem_in old)) = less_than_enough (own_count (problem_in old)) old.interval c u.few u.short (fewer_than c a (own_count (problem_in old)) few active) in
+    let begun : old.conflicts ≡ intervals_len old.interval = u.counted in
+    record { limit_is = is ∙ ap (λ (x : ℕ). Some x) (sym same); conflicts = sym s; few = omega arith }
+
+-- all the first intervals together are far below the last value of a count
+in_range : (i : ℕ) → i ≤ 2 ^ 20 → intervals_len i < 2 ^ 64 - 1
+in_range i h = let l : intervals_len i ≤ intervals_len 1048576 = no_fewer i 1048576 h in omega arith
+
+-- an interval was made whole
+pub ends : (old new : Parts) (limit : Option ℕ) (c a : ℕ) → IsUnderWay old → IfSome limit (λ m. old.conflicts ≤ m) → own_length old.interval ≡ Some c → IsBelow c (option_map (λ m. m - old.conflicts) limit)
+    → c < 3 ^ a → a ≤ own_count (problem_in old) → new.conflicts ≡ saturated old.conflicts c → new.interval ≡ old.interval + 1 → problem_in new ≡ problem_in old → EndsInterval old new limit
+ends old new limit c a u w own below few active t next same = record {
+  under_way = record { counted = counted; few = (let l : old.interval < 2 ^ 20 = first.0 in omega arith); short = short };
+  counted = more;
+  next = next;
+  few = first.0;
+  within = subst (λ (n : ℕ). IfSome limit (λ m. n < m)) (sym sum) (left_below limit old.conflicts c below w);
+}
+  where
+    first : (old.interval < 2 ^ 20) × (c ≡ interval_len old.interval)
+    first = own_interval old.interval c own
+
+    one : intervals_len (suc old.interval) ≡ intervals_len old.interval + interval_len old.interval
+    one = longer old.interval
+
+    sum : new.conflicts ≡ old.conflicts + c
+    sum =
+        let r : intervals_len (suc old.interval) < 2 ^ 64 - 1 = in_range (suc old.interval) (let l : old.interval < 2 ^ 20 = first.0 in omega arith) in
+        let b : old.conflicts ≡ intervals_len old.interval = u.counted in
+        let d : c ≡ interval_len old.interval = first.1 in omega (arith, one)
+
+    more : new.conflicts ≡ old.conflicts + interval_len old.interval
+    more = sum ∙ ap (λ n. old.conflicts + n) first.1
+
+    counted : new.conflicts ≡ intervals_len new.interval
+    counted = more ∙ (ap (λ n. n + interval_len old.interval) u.counted ∙ (sym one ∙ ap intervals_len (let z : suc old.interval ≡ new.interval = omega arith in z)))
+
+    shorter : (j : ℕ) → j < new.interval → interval_len j < 3 ^ own_count (problem_in old)
+    shorter j h =
+        ⊎_elim (λ (l : j < old.interval). u.short j l)
+        (λ (l : old.interval ≤ j).
+        let e : j ≡ old.interval = omega arith in
+        subst (λ (n : ℕ). n < 3 ^ own_count (problem_in old)) (first.1 ∙ ap interval_len (sym e)) (fewer_than c a (own_count (problem_in old)) few active)) (cases_lt j old.interval)
+
+    short : (j : ℕ) → j < new.interval → interval_len j < 3 ^ own_count (problem_in new)
+    short j h = subst (λ (f : Problem). interval_len j < 3 ^ own_count f) (sym same) (shorter j h)
+
+-- what comes at the end of an interval is right where the interval ended right
+pub over_right : (old new : Parts) (limit : Option ℕ) (before now : ℕ) (answer : StepAnswer) → IsOverOrNone answer → (answer ≡ IntervalOver → EndsInterval old new limit) → StepsRight old new limit before now answer
+over_right old new limit before now (Verdict v) h f = absurd h
+over_right old new limit before now IntervalOver h f = f refl
+over_right old new limit before now (Spent count) h f = absurd h
+over_right old new limit before now Asked h f = absurd h
+over_right old new limit before now Memory h f = tt
+
+-- where there is no model, no assumption is needed for a contradiction
+pub none_fails : (f : Problem) → HasNoModel f → IsFailed f [] []
+none_fails f h = record { positions = []; rising = search rules; places = tt; distinct = search rules; contradict = λ values m. absurd (h values m) }

@@ -1,0 +1,25 @@
+-- Learned clauses are dropped.
+use Rattle.std.proofs.Common.{◌≡◌, ℕ, refl, sym, ap, ◌∙◌}
+use Rattle.clause_store.specs.Store.{Store, IsKept}
+use Rattle.state_laws.specs.State.{State}
+use Rattle.state_laws.specs.Kernel.{Kernel, state_of, IsLearnedId}
+use Rattle.state_laws.specs.KernelLearnLaws.{dropped, drop_learned_state}
+use Rattle.one_solver.specs.Learned.{HasForgotten}
+
+-- one is
+pub forgot_one : (k n : Kernel) (id : ℕ) → IsLearnedId k id → IsKept k.store → n ≡ dropped id k → HasForgotten k n
+forgot_one k n id l s e = record {
+  same = e ∙ ap (λ (z : Store). let m : Kernel = record k { store = z } in m) (sym (ap (λ (z : Kernel). z.store) e));
+  hard = ap (λ (z : Kernel). (state_of z).hard) e ∙ ap (λ (z : State). z.hard) (drop_learned_state k id l s);
+}
+
+-- none is
+pub forgot_none : (k : Kernel) → HasForgotten k k
+forgot_none k = record { same = refl; hard = refl }
+
+-- some are, and then some more
+pub forgot_more : (k m n : Kernel) → HasForgotten k m → HasForgotten m n → HasForgotten k n
+forgot_more k m n f g = record {
+  same = g.same ∙ ap (λ (z : Kernel). let x : Kernel = record z { store = n.store } in x) f.same;
+  hard = g.hard ∙ f.hard;
+}

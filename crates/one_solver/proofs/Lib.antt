@@ -1,0 +1,6 @@
+pub mod Walking
+pub mod Fixing
+pub mod Forgetting
+pub mod Taking
+pub mod Refuting
+pub mod Counting

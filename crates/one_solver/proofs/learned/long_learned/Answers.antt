@@ -1,0 +1,10 @@
+use Rattle.std.proofs.Common.{IfSome, IsTrue, Option, subst}
+use Rattle.sat_lits.specs.declared.literal.ClauseId.{ClauseId}
+use Rattle.clause_store.specs.Store.{is_live}
+use Rattle.private_state.proofs.Collecting.{shorter}
+use Rattle.one_solver.proofs.learned.long_learned.Goals as goal
+
+pub walk-smaller : goal.walk-smaller
+walk-smaller c =
+    shorter c.args.store.now.held c.walk.at c.in-Some.id c.after-at.result c.in-Some.is
+    (subst (λ (o : Option ClauseId). IfSome o (λ id. IsTrue (is_live c.args.store.now.held id.0))) c.in-Some.is c.walk.invariant) c.after-at.ensures.step

@@ -1,0 +1,55 @@
+use Rattle.std.proofs.Common.{◌≡◌, ℕ, ◌-◌, ◌≤◌, ◌++◌, true, List, length, take, drop, ap, sym, subst, ◌∙◌}
+use Rattle.std.specs.List.{list_all}
+use Rattle.sat_lits.specs.Meaning.{Problem}
+use Rattle.sat_lits.specs.Formulas.{Extends, names_known}
+use Rattle.sat_lits.specs.FollowLaws.{Extends_itself}
+use Rattle.sat_lits.specs.declared.formula.Item.{Item}
+use Rattle.state_laws.specs.State.{State, outer_count, problem_of}
+use Rattle.state_laws.specs.Kernel.{state_of}
+use Rattle.one_solver.specs.Taken.{HasTaken}
+use Rattle.one_solver.proofs.Taking.{has_room, grown_basic, grown_count, rest_is, rest_passes, took_some, took_all, took_front}
+use Rattle.one_solver.proofs.take.take_formula.Goals as goal
+use Rattle.one_solver.proofs.take.take_formula.Goals.{After-items}
+
+pub grow-requires : goal.grow-requires
+grow-requires c =
+    has_room c.args.state.now c.vars.result 2147483648 c.requires.basic (subst (λ (n : ℕ). outer_count c.args.state.now.definitions ≤ n) (sym c.vars.ensures.value) c.requires.front.vars)
+    (subst (λ (n : ℕ). n ≤ 2147483648) (sym c.vars.ensures.value) c.requires.few)
+
+known : (c : After-items) → outer_count c.grow.new.self.definitions ≡ c.args.formula.now.problem.vars
+known c = grown_count c.args.state.now c.grow.new.self c.vars.result c.requires.basic (subst (λ (n : ℕ). outer_count c.args.state.now.definitions ≤ n) (sym c.vars.ensures.value) c.requires.front.vars) c.in_ok-grow.ensures.ok ∙ c.vars.ensures.value
+
+items : (c : After-items) → c.args.formula.now.problem.items ≡ c.grow.new.self.items ++ c.requires.front.more
+items c = c.requires.front.items ∙ ap (λ (z : State). z.items ++ c.requires.front.more) (sym c.in_ok-grow.ensures.ok)
+
+rest : (c : After-items) → take (length c.items.result.now - c.taken-taken.result) (drop c.taken-taken.result c.items.result.now) ≡ c.requires.front.more
+rest c = rest_is c.items.result.now c.grow.new.self.items c.requires.front.more c.taken-taken.result (c.items.ensures.value ∙ items c) c.taken-taken.ensures
+
+pub take_items-requires-clause-basic : goal.take_items-requires-clause-basic
+take_items-requires-clause-basic c = grown_basic c.args.state.now c.grow.new.self _ c.requires.basic c.in_ok-grow.ensures.ok
+
+pub take_items-requires-clause-known : goal.take_items-requires-clause-known
+take_items-requires-clause-known c =
+    let d : After-items = (goal.at.take_items-requires-clause-known c).After-items in
+    subst (λ (xs : List Item). list_all (names_known (outer_count c.grow.new.self.definitions)) xs ≡ true) (sym (rest d))
+    (rest_passes (names_known (outer_count c.grow.new.self.definitions)) c.args.formula.now.problem.items c.grow.new.self.items c.requires.front.more (items d)
+    (subst (λ (n : ℕ). list_all (names_known n) c.args.formula.now.problem.items ≡ true) (sym (known d)) c.items.ensures.within.known))
+
+pub returns-in_err-take_items-clause-front : goal.returns-in_err-take_items-clause-front
+returns-in_err-take_items-clause-front c =
+    let d : After-items = (goal.at.returns-in_err-take_items-clause-front c).After-items in
+    let (m, h) = c.in_err-take_items.ensures.some in
+    took_some c.args.formula.now.problem c.grow.new.self c.take_items.new.state c.requires.front.more m (known d) (items d)
+    (subst (λ (xs : List Item). HasTaken c.grow.new.self c.take_items.new.state (take m xs)) (rest d) h)
+
+pub returns-clause-ok : goal.returns-clause-ok
+returns-clause-ok c =
+    let d : After-items = (goal.at.returns-clause-ok c).After-items in
+    took_all c.args.formula.now.problem c.grow.new.self c.take_items.new.state c.requires.front.more (known d) (items d)
+    (subst (λ (xs : List Item). HasTaken c.grow.new.self c.take_items.new.state xs) (rest d) c.in_ok-take_items.ensures.ok)
+
+pub returns-clause-front : goal.returns-clause-front
+returns-clause-front c =
+    let d : After-items = (goal.at.returns-clause-front c).After-items in
+    took_front c.args.formula.now.problem c.grow.new.self c.take_items.new.state c.requires.front.more (known d) (items d)
+    (subst (λ (xs : List Item). HasTaken c.grow.new.self c.take_items.new.state xs) (rest d) c.in_ok-take_items.ensures.ok)

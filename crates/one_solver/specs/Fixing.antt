@@ -1,0 +1,18 @@
+-- A state while the literals of its clauses of one literal are fixed.
+use Rattle.std.specs.Prelude.{◌≡◌, ◌⊎◌, true}
+use Rattle.std.specs.List.{list_any}
+use Rattle.sat_lits.specs.declared.literal.OwnLit.{OwnLit}
+use Rattle.rebuild_stack.specs.PutIn.{same_lit}
+use Rattle.state_laws.specs.Kernel.{Kernel, state_of}
+use Rattle.one_solver.specs.Basic.{IsBasic}
+use Rattle.one_solver.specs.Units.{is_empty, is_unit, IsFixed, TookSame}
+
+-- the clause of one literal is still held, or the literal is fixed, or a hard clause has no literal
+abbrev pub IsHeldOrFixed : Kernel → OwnLit → Type 0
+IsHeldOrFixed k l = (list_any (is_unit (same_lit l)) (state_of k).hard ≡ true) ⊎ (IsFixed k l ⊎ (list_any is_empty (state_of k).hard ≡ true))
+
+-- so stands each clause of one literal that was held at first
+pub record IsFixing (first now : Kernel) : Type 0 where
+  pub basic : IsBasic now
+  pub same : TookSame first now
+  pub units : (l : OwnLit) → list_any (is_unit (same_lit l)) (state_of first).hard ≡ true → IsHeldOrFixed now l

@@ -1,0 +1,16 @@
+//! One solver: a private state, a search over it, and what it answers.
+//!
+//! `OneSolver` takes the items of a formula, begins a call, and then searches interval by interval.
+//! Each verdict that it gives is right for the items that it took.
+#![tactic(auto)]
+
+mod answer;
+mod learned;
+mod solver;
+mod take;
+#[cfg(test)]
+mod tests;
+mod units;
+
+pub use answer::StepAnswer;
+pub use solver::OneSolver;

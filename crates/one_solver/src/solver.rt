@@ -1,0 +1,269 @@
+ghost use Rattle.std.specs.Prelude.{◌≡◌, ◌+◌, ◌-◌, ◌<◌, ◌≤◌, ◌^◌, [], false, true, length, option_map, IfSome, OnOk, IsTrue};
+ghost use Rattle.std.specs.List.{list_all};
+ghost use Rattle.sat_lits.specs.Conflicts.{own_count};
+ghost use Rattle.sat_lits.specs.Formulas.{Extends};
+ghost use Rattle.sat_lits.specs.Truth.{clauses_value};
+ghost use Rattle.sat_lits.specs.declared.verdict.Verdict.TheVariants.{Unsat};
+ghost use Rattle.clause_store.specs.Store.{hard_of};
+ghost use Rattle.state_laws.specs.Held.{in_value};
+ghost use Rattle.state_laws.specs.Conditions.{IsContradicted};
+ghost use Rattle.state_laws.specs.Kernel.{Standing, state_of};
+ghost use Rattle.search.specs.InUse.{in_use};
+ghost use Rattle.analyze.specs.Counting.{saturated};
+ghost use Rattle.one_solver.specs.Basic.{is_clause, no_problem, IsBasic};
+ghost use Rattle.one_solver.specs.Parts.{problem_in, SameCall};
+ghost use Rattle.one_solver.specs.Units.{FixesUnits, HasNoUnits};
+ghost use Rattle.one_solver.specs.Steps.{IsUnderWay, StepsRight, IsRefuted, HasNoModel, IsModelOrNone, IsOverOrNone};
+
+use crate::answer::StepAnswer;
+use crate::learned::forget_old;
+use crate::take::take_formula;
+use crate::units::fix_units;
+use analyze::Tally;
+use private_state::PrivateState;
+use sat_lits::{Formula, List, Lit, NoMemory, Verdict};
+use sat_ports::Alarm;
+use search::{IntervalAnswer, Search};
+use std::alloc::Global;
+use std::marker::Model;
+
+/// How many learned clauses of more than two literals are kept after the first interval.
+const KEPT: u64 = 2000;
+
+/// How many more are kept after each further interval.
+const KEPT_MORE: u64 = 100;
+
+/// One solver with a state of its own.
+///
+/// It takes clauses alone today, and no assumptions. After want of memory from any call it still
+/// stands for the items that it took.
+#[derive(Debug, Drop)]
+pub struct OneSolver {
+    alloc: Global,
+    number: u32,
+    state: PrivateState,
+    search: Search,
+    tally: Tally,
+    interval: u64,
+}
+
+impl Model for OneSolver {
+    ghost use Rattle.one_solver.specs.Parts.{Parts};
+
+    ghost Value = { Parts };
+
+    ghost use Rattle.one_solver.specs.Kept.{parts_of, IsKept};
+
+    ghost view = { parts_of };
+
+    ghost invariant = { IsKept };
+}
+
+impl OneSolver {
+    /// A solver that took nothing. The first phase of each variable is false where the number is
+    /// even and true where it is odd. It takes no memory.
+    pub fn new(alloc: Global, number: u32) -> OneSolver
+        ensures number { result.number ≡ number }
+        ensures problem { problem_in result ≡ no_problem }
+        ensures okay { result.kernel.okay ≡ true }
+        ensures conflicts { result.conflicts ≡ 0 }
+        ensures interval { result.interval ≡ 0 }
+    {
+        OneSolver {
+            alloc,
+            number,
+            state: PrivateState::new(alloc),
+            search: Search::new(alloc, number % 2 == 1),
+            tally: Tally::new(),
+            interval: 0,
+        }
+    }
+
+    /// Grows to the formula's number of variables, at most 2^31, and takes its items from `taken`
+    /// on. They are clauses, and those that were taken are the formula's first ones. The only error is want of
+    /// memory: then some of the items may be taken.
+    pub fn absorb(&mut self, formula: &Formula) -> Result<(), NoMemory>
+        requires front { Extends (problem_in self.old) formula.now.problem }
+        requires few { formula.now.problem.vars ≤ 2 ^ 31 }
+        requires clauses { IsTrue (list_all is_clause formula.now.problem.items) }
+        ensures ok { OnOk result (problem_in self.new ≡ formula.now.problem) }
+        ensures front { Extends (problem_in self.new) formula.now.problem }
+        ensures same { SameCall self.old self.new }
+        ensures okay { self.new.kernel.okay ≡ self.old.kernel.okay }
+    {
+        take_formula(&mut self.state, formula)
+    }
+
+    /// Starts a call, under no assumptions today: it made no conflict yet, and its first interval
+    /// comes next. Fixes the literals of the clauses of one literal until there is none. The only
+    /// error is want of memory.
+    pub fn begin_call(&mut self, assumptions: &[Lit]) -> Result<(), NoMemory>
+        requires { assumptions.now ≡ [] }
+        ensures begun { (self.new.conflicts ≡ 0) × (self.new.interval ≡ 0) }
+        ensures fixed { OnOk result (IsTrue self.new.kernel.okay → FixesUnits self.old.kernel self.new.kernel) }
+        ensures left { OnOk result (IsTrue self.new.kernel.okay → HasNoUnits self.new.kernel) }
+        ensures problem { problem_in self.new ≡ problem_in self.old }
+        ensures number { self.new.number ≡ self.old.number }
+        ensures refuted { self.old.kernel.okay ≡ false → self.new.kernel.okay ≡ false }
+    {
+        self.tally = Tally::new();
+        self.interval = 0;
+        fix_units(&mut self.state)
+    }
+
+    /// Runs one interval of the call that `begin_call` started, where each earlier step of it
+    /// answered `IntervalOver` and its conflicts are at most the limit.
+    ///
+    /// A verdict is right for the items taken; where the solver is not okay, it is `Unsat` of the
+    /// empty list. `IntervalOver` comes exactly where the interval made its full number of
+    /// conflicts without another answer, and the next interval is one longer. `Spent` comes exactly
+    /// where the conflicts of the call equal the limit without a verdict, and only where the limit
+    /// is less than the number of conflicts that is enough for the items taken. `Asked` comes only
+    /// where the count of `stop` rose in this call.
+    pub fn step<S: Alarm>(&mut self, limit: Option<u64>, stop: &mut S) -> StepAnswer
+        requires under_way { IsUnderWay self.old }
+        requires within { IfSome limit (λ most. self.old.conflicts ≤ most) }
+        ensures right { StepsRight self.old self.new limit (S.raises stop.old) (S.raises stop.new) result }
+        ensures refuted { IsRefuted self.old result }
+        ensures problem { problem_in self.new ≡ problem_in self.old }
+        ensures number { self.new.number ≡ self.old.number }
+        ensures more { self.old.conflicts ≤ self.new.conflicts }
+    {
+        self.stands();
+        if !self.state.okay() {
+            return StepAnswer::Verdict(Verdict::Unsat(List::new(self.alloc)));
+        }
+        let left = left_of(limit, self.tally.count());
+        let answer = self.search.run_interval(
+            &mut self.state,
+            &[],
+            self.interval,
+            left,
+            stop,
+            &mut self.tally,
+        );
+        match answer {
+            IntervalAnswer::Model(values) => self.sat(values.as_slice()),
+            IntervalAnswer::Failed(_) => self.unsat(),
+            IntervalAnswer::IntervalOver => self.end_interval(),
+            IntervalAnswer::Spent => StepAnswer::Spent {
+                count: self.tally.count(),
+            },
+            IntervalAnswer::Asked => StepAnswer::Asked,
+            IntervalAnswer::Memory => StepAnswer::Memory,
+        }
+    }
+
+    /// The number of the solver.
+    pub fn number(&self) -> u32
+        ensures { result ≡ self.now.number }
+    {
+        self.number
+    }
+
+    /// The number of items taken.
+    pub fn taken(&self) -> usize
+        ensures { result ≡ length (problem_in self.now).items }
+    {
+        self.state.taken()
+    }
+
+    /// The number of conflicts of the call, which stays at 18446744073709551615 once it is there.
+    pub fn conflicts(&self) -> u64
+        ensures { result ≡ self.now.conflicts }
+    {
+        self.tally.count()
+    }
+
+    /// Adds the conflicts to a tally, and leaves 0.
+    pub fn pour(&mut self, into: &mut Tally)
+        ensures sum { into.new ≡ saturated into.old self.old.conflicts }
+        ensures emptied { self.new ≡ record self.old { conflicts = 0 } }
+    {
+        into.pour(&mut self.tally);
+    }
+
+    /// False only where the items taken have no model.
+    pub fn okay(&self) -> bool
+        ensures value { result ≡ self.now.kernel.okay }
+        ensures right { result ≡ false → HasNoModel (problem_in self.now) }
+    {
+        self.state.stands();
+        self.state.okay()
+    }
+
+    /// Hands to proofs that the state stands, and that no more variables are active than the items
+    /// may come to have. It does nothing when it runs.
+    fn stands(&self)
+        ensures standing { Standing self.now.kernel }
+        ensures basic { IsBasic self.now.kernel }
+        ensures active { length (in_use self.now.kernel.maps) ≤ own_count (problem_in self.now) }
+    {
+        self.state.stands();
+        let _len = self.state.maps().inner_len();
+    }
+
+    /// Answers a model, rebuilt from values of the inner numbers that satisfy the hard clauses.
+    fn sat(&self, values: &[bool]) -> StepAnswer
+        requires okay { IsTrue self.now.kernel.okay }
+        requires long { length values.now ≡ length self.now.kernel.maps.owners }
+        requires satisfied { IsTrue (clauses_value (in_value values.now) (hard_of self.now.kernel.store.held)) }
+        ensures { IsModelOrNone (problem_in self.now) result }
+    {
+        match self.state.outer_model(values) {
+            Ok(model) => StepAnswer::Verdict(Verdict::Sat(model)),
+            Err(NoMemory) => StepAnswer::Memory,
+        }
+    }
+
+    /// Answers that there is no model, where the clauses have no solution.
+    fn unsat(&mut self) -> StepAnswer
+        requires { IsContradicted (state_of self.old.kernel) }
+        ensures answer { result ≡ StepAnswer.Verdict (Unsat []) }
+        ensures right { HasNoModel (problem_in self.old) }
+        ensures same { self.new ≡ record self.old { kernel = self.new.kernel } }
+        ensures problem { problem_in self.new ≡ problem_in self.old }
+    {
+        self.state.refute();
+        self.state.stands();
+        StepAnswer::Verdict(Verdict::Unsat(List::new(self.alloc)))
+    }
+
+    /// Ends an interval: fixes what clauses of one literal say, and forgets old learned clauses.
+    fn end_interval(&mut self) -> StepAnswer
+        requires { self.old.interval < 2 ^ 20 }
+        ensures answer { IsOverOrNone result }
+        ensures next { result ≡ StepAnswer.IntervalOver → self.new.interval ≡ self.old.interval + 1 }
+        ensures conflicts { self.new.conflicts ≡ self.old.conflicts }
+        ensures problem { problem_in self.new ≡ problem_in self.old }
+        ensures number { self.new.number ≡ self.old.number }
+    {
+        let keep = KEPT + KEPT_MORE * self.interval;
+        self.interval += 1;
+        match self.tidy(keep as usize) {
+            Ok(()) => StepAnswer::IntervalOver,
+            Err(NoMemory) => StepAnswer::Memory,
+        }
+    }
+
+    /// Fixes the literals of the clauses of one literal, and keeps so many long learned clauses.
+    fn tidy(&mut self, keep: usize) -> Result<(), NoMemory>
+        ensures same { self.new ≡ record self.old { kernel = self.new.kernel } }
+        ensures problem { problem_in self.new ≡ problem_in self.old }
+    {
+        fix_units(&mut self.state)?;
+        forget_old(self.alloc, &mut self.state, keep)
+    }
+}
+
+/// How many conflicts a limit leaves where so many were made.
+fn left_of(limit: Option<u64>, made: u64) -> Option<u64>
+    requires { IfSome limit (λ most. made ≤ most) }
+    ensures value { result ≡ option_map (λ most. most - made) limit }
+    ensures range { IfSome limit (λ most. most < 2 ^ 64) }
+{
+    match limit {
+        Some(most) => Some(most - made),
+        None => None,
+    }
+}

@@ -1,0 +1,42 @@
+ghost use Rattle.std.specs.Prelude.{◌≡◌, ◌≤◌, ◌^◌, ℕ, take, OnOk, IsTrue};
+ghost use Rattle.std.specs.List.{list_all};
+ghost use Rattle.sat_lits.specs.Formulas.{Extends, names_known};
+ghost use Rattle.state_laws.specs.State.{outer_count, problem_of};
+ghost use Rattle.state_laws.specs.Kernel.{state_of};
+ghost use Rattle.one_solver.specs.Basic.{is_clause, IsBasic};
+ghost use Rattle.one_solver.specs.Taken.{HasTaken};
+
+use private_state::PrivateState;
+use sat_lits::{Formula, Item, NoMemory};
+
+/// Grows a state to the variables of a formula, and takes those of its items that were not taken.
+pub fn take_formula(state: &mut PrivateState, formula: &Formula) -> Result<(), NoMemory>
+    requires basic { IsBasic state.old }
+    requires front { Extends (problem_of (state_of state.old)) formula.now.problem }
+    requires few { formula.now.problem.vars ≤ 2 ^ 31 }
+    requires clauses { IsTrue (list_all is_clause formula.now.problem.items) }
+    ensures basic { IsBasic state.new }
+    ensures ok { OnOk result (problem_of (state_of state.new) ≡ formula.now.problem) }
+    ensures front { Extends (problem_of (state_of state.new)) formula.now.problem }
+    ensures okay { state.new.okay ≡ state.old.okay }
+{
+    state.grow(formula.vars())?;
+    let taken = state.taken();
+    take_items(state, &formula.items()[taken..])?;
+    Ok(())
+}
+
+/// Takes clauses over variables that are there.
+fn take_items(state: &mut PrivateState, items: &[Item]) -> Result<(), NoMemory>
+    requires basic { IsBasic state.old }
+    requires clauses { IsTrue (list_all is_clause items.now) }
+    requires known { IsTrue (list_all (names_known (outer_count state.old.definitions)) items.now) }
+    ensures basic { IsBasic state.new }
+    ensures ok { OnOk result (HasTaken state.old state.new items.now) }
+    ensures some { (n : ℕ) × HasTaken state.old state.new (take n items.now) }
+{
+    for item in items {
+        state.take_input(item)?;
+    }
+    Ok(())
+}

@@ -1,0 +1,39 @@
+-- The clause of negated literals.
+use Rattle.std.proofs.Common.{◌≡◌, ℕ, Bool, true, false, not, ◌||◌, ◌&&◌, List, [], ◌∷◌, Option, map, refl, sym, ap, subst, ◌∙◌}
+use Rattle.std.proofs.lemmas.Bool.{or_left, or_right, true≢false}
+use Rattle.sat_lits.specs.Truth.{signed}
+use Rattle.sat_lits.specs.ClauseLaws.{signed_not}
+use Rattle.sat_lits.specs.Meaning.{Problem, IsModel, Follows, satisfies_clause, is_true, value_of}
+use Rattle.sat_lits.specs.Verdicts.{makes_true, IsFailed, IsRight}
+use Rattle.sat_lits.specs.declared.verdict.Verdict.{Verdict}
+use Rattle.sat_lits.specs.declared.verdict.Verdict.TheVariants.{Unsat}
+use Rattle.sat_lits.specs.declared.literal.Lit.{Lit}
+use Rattle.sat_api.specs.Answers.{negated, HasModelUnder}
+use Rattle.sat_api.specs.Decisions.{IsFound}
+use Rattle.sat_api.specs.Laws.{makes_true-StandAt}
+use Rattle.sat_api.specs.declared.decide.Found.{Found}
+use Rattle.sat_api.specs.declared.decide.Found.TheVariants as decision
+
+-- where not all of some literals are true, one of their negations is
+one_false : (values : List Bool) (lits : List Lit) → makes_true values lits ≡ false → satisfies_clause values (map negated lits) ≡ true
+one_false values [] e = absurd (true≢false e)
+one_false values (l ∷ lits) e = go (is_true values l) refl (λ g. one_false values lits g) e
+  where
+    go : (b : Bool) → is_true values l ≡ b → (makes_true values lits ≡ false → satisfies_clause values (map negated lits) ≡ true) → (b && makes_true values lits) ≡ false → (is_true values (negated l) || satisfies_clause values (map negated lits)) ≡ true
+    go true f r g = or_right _ _ (r g)
+    go false f r g = or_left _ _ (signed_not l.negative (value_of values l.var) ∙ ap not f)
+
+-- the clause of the negated failed assumptions follows
+pub negated_follow : (f : Problem) (assumptions failed : List Lit) → IsFailed f assumptions failed → Follows f (map negated failed)
+negated_follow f assumptions failed h values m = one_false values failed (h.contradict values m)
+
+-- failed assumptions that were found, in a verdict that was found
+pub found_failed : (f : Problem) (limit : Option ℕ) (conflicts : ℕ) (found : Found) (verdict : Verdict) (failed : List Lit) → found ≡ decision.Verdict verdict → verdict ≡ Unsat failed → IsFound f limit conflicts found → IsFailed f [] failed
+found_failed f limit conflicts found verdict failed e v h =
+    let P : Found → Type 0 = λ x. IsFound f limit conflicts x in
+    let Q : Verdict → Type 0 = λ x. IsRight f [] x in
+    subst Q v (subst P e h)
+
+-- where no assumptions fail, there is no model under any
+pub none_under : (f : Problem) (failed assumptions : List Lit) → IsFailed f [] failed → HasModelUnder f assumptions → ⊥
+none_under f failed assumptions h (values, model, made) = true≢false (sym (makes_true-StandAt values [] h.positions failed h.places refl) ∙ h.contradict values model)

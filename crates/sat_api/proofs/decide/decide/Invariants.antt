@@ -1,0 +1,14 @@
+use Rattle.std.proofs.Common.{◌≡◌, ◌≤◌, ◌-◌, ◌^◌, IfSome}
+use Rattle.one_solver.specs.Parts.{problem_in}
+use Rattle.one_solver.specs.Steps.{IsUnderWay}
+use Rattle.sat_api.proofs.decide.decide.Given as goal
+
+abbrev pub invariant-intervals : goal.invariant-intervals
+invariant-intervals l = record {
+  under_way : IsUnderWay l.solver;
+  within : IfSome l.limit (λ m. l.solver.conflicts ≤ m);
+  problem : problem_in l.solver ≡ l.formula.problem;
+}
+
+abbrev pub decreases-intervals : goal.decreases-intervals
+decreases-intervals l = 2 ^ 20 - l.solver.interval

@@ -1,0 +1,48 @@
+ghost use Rattle.std.specs.Prelude.{◌≡◌, ◌≤◌, ◌^◌, [], IfOk, IsTrue};
+ghost use Rattle.std.specs.List.{list_all};
+ghost use Rattle.sat_lits.specs.Formulas.{Extends};
+ghost use Rattle.one_solver.specs.Basic.{is_clause};
+ghost use Rattle.one_solver.specs.Parts.{problem_in};
+ghost use Rattle.sat_api.specs.Decisions.{IsFound};
+
+use one_solver::{OneSolver, StepAnswer};
+use sat_lits::{Formula, Lit, NoMemory, Verdict};
+use sat_ports::Silent;
+
+/// What the solver found.
+#[derive(Debug, Drop)]
+pub enum Found {
+    /// A right verdict.
+    Verdict(Verdict),
+    /// As many conflicts as the limit allows, and no verdict.
+    Spent { count: u64 },
+}
+
+/// Brings a solver up to a formula that begins with what it took, and lets it search interval by
+/// interval until it has a verdict or made as many conflicts as the limit allows. The only error
+/// is want of memory.
+pub fn decide(
+    solver: &mut OneSolver,
+    formula: &Formula,
+    assumptions: &[Lit],
+    limit: Option<u64>,
+) -> Result<Found, NoMemory>
+    requires front { Extends (problem_in solver.old) formula.now.problem }
+    requires few { formula.now.problem.vars ≤ 2 ^ 31 }
+    requires clauses { IsTrue (list_all is_clause formula.now.problem.items) }
+    requires assumptions { assumptions.now ≡ [] }
+    ensures found { IfOk result (IsFound formula.now.problem limit solver.new.conflicts) }
+    ensures front { Extends (problem_in solver.new) formula.now.problem }
+{
+    solver.absorb(formula)?;
+    solver.begin_call(assumptions)?;
+    'intervals: loop {
+        match solver.step(limit, &mut Silent::new()) {
+            StepAnswer::Verdict(verdict) => return Ok(Found::Verdict(verdict)),
+            StepAnswer::IntervalOver => {}
+            StepAnswer::Spent { count } => return Ok(Found::Spent { count }),
+            StepAnswer::Asked => unreachable!(),
+            StepAnswer::Memory => return Err(NoMemory),
+        }
+    }
+}
