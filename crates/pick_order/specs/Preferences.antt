@@ -1,4 +1,4 @@
--- What contracts see of the order: what is known of each variable that is active, by its number.
+-- What is known of each variable that is active, by its number.
 use Rattle.std.specs.Prelude.{◌≡◌, ◌==◌, ℕ, ◌+◌, ◌/◌, ◌^◌, ◌≤◌, nat_le, Bool, true, false, not, if◌then◌else◌, List, map, slice_set, slice_index_or, Option, Some, None, option_map, unwrap_or}
 use Rattle.std.specs.List.{list_any}
 use Rattle.sat_lits.specs.declared.literal.Inner.{Inner}

@@ -1,9 +1,10 @@
-ghost use Rattle.std.specs.Prelude.{◌≡◌, ◌↔◌, ℕ, ◌+◌, ◌/◌, ◌^◌, ◌<◌, ◌≤◌, [], false, not, nat_lt, map, length, IsTrue, IsSome, IsNone, IfSome, OnOk, OnErr, IfOk, is_some, slice_set, if◌then◌else◌, vec_capacity, option_map};
+ghost use Rattle.std.specs.Prelude.{◌≡◌, ◌↔◌, ◌==◌, ℕ, ◌+◌, ◌/◌, ◌^◌, ◌<◌, ◌≤◌, ◌&&◌, [], true, false, not, nat_lt, map, length, IsTrue, IsSome, IsNone, IfSome, OnOk, OnErr, IfOk, is_some, slice_set, if◌then◌else◌, option_map};
 ghost use Rattle.std.specs.List.{list_all};
 ghost use Rattle.trail.specs.Trail.{set_in};
 ghost use Rattle.pick_order.specs.Tournaments.{IsFirst, entrant};
 ghost use Rattle.pick_order.specs.Preferences.{IsPick, AllSet, IsLimited, activity_in, fits_in, preference_in, candidate_in, prepared, raised, bumped, with_phase, half_preference};
-ghost use Rattle.pick_order.specs.Queues.{IsQueued, IsCarried};
+ghost use Rattle.pick_order.specs.Orders.{HasPassedSet, HasSamePassed, is_passed, fitting, grown_increment};
+ghost use Rattle.pick_order.specs.Queues.{IsCarried, IsPlaced, HasLostSet};
 
 use crate::preference::{Candidate, Preference};
 use crate::tournament::Tournament;
@@ -22,23 +23,21 @@ const LIMIT: u64 = 1 << 62;
 const GROWTH: u64 = 4096;
 
 /// The active variables, each with an activity and a phase, in the order in which they are decided.
+/// Those that `next` passed over are no candidates until they are put back.
 #[derive(Debug, Drop)]
 pub struct PickOrder {
     // By variable, what is known of it where it is active.
     preferences: Vec<Option<Preference>>,
     // The candidates for the next decision, by variable.
     tournament: Tournament,
-    // The variables that are no candidates because a trail had set them. Room for each.
-    passed: Vec<Inner>,
     // What the next bump adds to an activity.
     increment: u64,
 }
 
 impl Model for PickOrder {
-    ghost use Rattle.std.specs.Prelude.{List, Option};
-    ghost use Rattle.pick_order.specs.declared.preference.Preference.{Preference};
+    ghost use Rattle.pick_order.specs.Orders.{Order};
 
-    ghost Value = { List (Option Preference) };
+    ghost Value = { Order };
 
     ghost use Rattle.pick_order.specs.Inside.{order_of, IsOrdered};
 
@@ -50,31 +49,30 @@ impl Model for PickOrder {
 impl PickOrder {
     /// An order with no active variable. It takes no memory.
     pub fn new(alloc: Global) -> PickOrder
-        ensures { result ≡ [] }
+        ensures { result ≡ record { known = []; candidates = []; increment = 4096 } }
     {
         PickOrder {
             preferences: Vec::new(alloc),
             tournament: Tournament::new(alloc),
-            passed: Vec::new(alloc),
             increment: GROWTH,
         }
     }
 
-    /// Takes over the active variables, and these alone. Those that were active keep their activity
-    /// and their phase. A new one gets the activity 0 and the given phase. The only error is want of
-    /// memory, and nothing changes then.
+    /// Takes over the active variables, and these alone, all as candidates. Those that were active
+    /// keep their activity and their phase. A new one gets the activity 0 and the given phase. The
+    /// only error is want of memory, and nothing changes then.
     pub fn prepare(&mut self, active: &[Inner], phase: bool) -> Result<(), NoMemory>
-        ensures ok { OnOk result ((v : ℕ) → preference_in self.new v ≡ prepared active.now phase self.old v) }
+        ensures ok { OnOk result ((v : ℕ) → preference_in self.new.known v ≡ prepared active.now phase self.old.known v) }
+        ensures passed { OnOk result ((v : ℕ) → is_passed self.new v ≡ false) }
+        ensures increment { OnOk result (self.new.increment ≡ self.old.increment) }
         ensures err { OnErr result (self.new ≡ self.old) }
     {
-        let alloc = *self.passed.allocator();
+        let alloc = *self.preferences.allocator();
         let preferences = take_over(alloc, active, phase, &self.preferences)?;
         let tournament = Tournament::over(alloc, &preferences)?;
-        let passed = Vec::with_capacity(alloc, preferences.len())?;
         *self = PickOrder {
             preferences,
             tournament,
-            passed,
             increment: self.increment,
         };
         Ok(())
@@ -83,23 +81,18 @@ impl PickOrder {
     /// The active variable that a trail leaves unset and that has the greatest activity, the least
     /// number where several have it, as a literal with its phase. None exactly where every active
     /// variable is set.
+    ///
+    /// The trail sets every variable that was passed over: what it no longer sets is put back
+    /// before, by `put_back`, or by `put_back_unset` where the trail has nothing to do with the
+    /// last one. Each variable that is passed over here costs a logarithmic step.
     pub fn next(&mut self, trail: &Trail) -> Option<InLit>
-        ensures none { IsNone result ↔ AllSet self.old trail.now.steps }
-        ensures some { IfSome result (λ l. (p : Preference) × IsPick self.old trail.now.steps l p) }
-        ensures same { self.new ≡ self.old }
+        requires { HasPassedSet self.old trail.now.steps }
+        ensures none { IsNone result ↔ AllSet self.old.known trail.now.steps }
+        ensures some { IfSome result (λ l. (p : Preference) × IsPick self.old.known trail.now.steps l p) }
+        ensures same { self.new ≡ record self.old { candidates = self.new.candidates } }
+        ensures passed { HasPassedSet self.new trail.now.steps }
     {
-        put_back(
-            &mut self.tournament,
-            &mut self.passed,
-            &self.preferences,
-            trail,
-        );
-        let first = pass_over(
-            &mut self.tournament,
-            &mut self.passed,
-            &self.preferences,
-            trail,
-        )?;
+        let first = pass_over(&mut self.tournament, trail)?;
         let preference = self.preferences[first.var.0 as usize].unwrap();
         Some(InLit {
             var: first.var,
@@ -107,11 +100,53 @@ impl PickOrder {
         })
     }
 
-    /// Raises the activity of an active variable by an increment, and no other. Where it would pass
-    /// 2^62, all activities and the increment are halved first, rounded down.
+    /// Makes a variable that was passed over a candidate again, in a logarithmic step. Nothing
+    /// changes where it was not.
+    pub fn put_back(&mut self, var: Inner)
+        ensures same { self.new ≡ record self.old { candidates = self.new.candidates } }
+        ensures passed { (v : ℕ) → is_passed self.new v ≡ (is_passed self.old v && not (v == var.0)) }
+    {
+        if self.is_passed(var) {
+            let candidate = candidate_of(&self.preferences, var);
+            self.tournament.enter(var.0 as usize, candidate);
+        }
+    }
+
+    /// Makes all variables that were passed over and that a trail leaves unset candidates again, in
+    /// one walk over all variables. Then `next` may be asked of that trail, whatever it has to do
+    /// with the last one.
+    pub fn put_back_unset(&mut self, trail: &Trail)
+        ensures same { self.new ≡ record self.old { candidates = self.new.candidates } }
+        ensures passed { (v : ℕ) → is_passed self.new v ≡ (is_passed self.old v && set_in trail.now.steps v) }
+        ensures set { HasPassedSet self.new trail.now.steps }
+    {
+        for number in 0..self.preferences.len() {
+            let var = Inner(number as u32);
+            if !is_set(trail, var) {
+                self.put_back(var);
+            }
+        }
+    }
+
+    /// Whether a variable was passed over, which is to say that it is active and no candidate.
+    pub fn is_passed(&self, var: Inner) -> bool
+        ensures { result ≡ is_passed self.now var.0 }
+    {
+        let place = var.0 as usize;
+        place < self.preferences.len()
+            && self.preferences[place].is_some()
+            && self.tournament.entrant(place).is_none()
+    }
+
+    /// Raises the activity of an active variable by the increment, and no other. Where it would
+    /// pass 2^62, all activities and the increment are halved first, rounded down. The increment
+    /// grows by a part in 4096.
     pub fn bump(&mut self, var: Inner)
-        requires { IsSome (preference_in self.old var.0) }
-        ensures { (by : ℕ) × (2 ≤ by) × (self.new ≡ bumped var.0 by self.old) }
+        requires { IsSome (preference_in self.old.known var.0) }
+        ensures known { self.new.known ≡ bumped var.0 self.old.increment self.old.known }
+        ensures passed { HasSamePassed self.old self.new }
+        ensures increment { self.new.increment ≡ grown_increment (fitting self.old.known var.0 self.old.increment) }
+        ensures least { 4096 ≤ self.old.increment }
     {
         let by = make_room(
             &mut self.preferences,
@@ -125,8 +160,8 @@ impl PickOrder {
 
     /// The phase of an active variable becomes the sign of a literal.
     pub fn keep_phase(&mut self, lit: InLit)
-        requires { IsSome (preference_in self.old lit.var.0) }
-        ensures { self.new ≡ with_phase lit.var.0 (not lit.negative) self.old }
+        requires { IsSome (preference_in self.old.known lit.var.0) }
+        ensures { self.new ≡ record self.old { known = with_phase lit.var.0 (not lit.negative) self.old.known } }
     {
         let place = lit.var.0 as usize;
         let preference = self.preferences[place].unwrap();
@@ -139,8 +174,8 @@ impl PickOrder {
     /// What is known of a variable, or None exactly where it is not active. No activity is above
     /// 2^62.
     pub fn preference_of(&self, var: Inner) -> Option<Preference>
-        ensures value { result ≡ preference_in self.now var.0 }
-        ensures limit { IsLimited self.now }
+        ensures value { result ≡ preference_in self.now.known var.0 }
+        ensures limit { IsLimited self.now.known }
     {
         known_of(&self.preferences, var)
     }
@@ -207,40 +242,10 @@ fn is_set(trail: &Trail, var: Inner) -> bool
     trail.level_of(var).is_some()
 }
 
-/// Makes candidates of the variables that were passed over and that a trail leaves unset.
-fn put_back(
-    tournament: &mut Tournament,
-    passed: &mut Vec<Inner>,
-    preferences: &[Option<Preference>],
-    trail: &Trail,
-)
-    requires { IsQueued preferences.now tournament.old passed.old.items (vec_capacity passed.old) }
-    ensures queued { IsQueued preferences.now tournament.new passed.new.items (vec_capacity passed.new) }
-    ensures set { IsTrue (list_all (λ a. set_in trail.now.steps a.0) passed.new.items) }
-{
-    let mut place = 0;
-    'passed: while place < passed.len() {
-        let var = passed[place];
-        if is_set(trail, var) {
-            place += 1;
-        } else {
-            passed.swap_remove(place);
-            tournament.enter(var.0 as usize, candidate_of(preferences, var));
-        }
-    }
-}
-
-/// The first candidate that a trail leaves unset. Those before it are passed over.
-fn pass_over(
-    tournament: &mut Tournament,
-    passed: &mut Vec<Inner>,
-    preferences: &[Option<Preference>],
-    trail: &Trail,
-) -> Option<Candidate>
-    requires queued { IsQueued preferences.now tournament.old passed.old.items (vec_capacity passed.old) }
-    requires set { IsTrue (list_all (λ a. set_in trail.now.steps a.0) passed.old.items) }
-    ensures queued { IsQueued preferences.now tournament.new passed.new.items (vec_capacity passed.new) }
-    ensures set { IsTrue (list_all (λ a. set_in trail.now.steps a.0) passed.new.items) }
+/// The first candidate that a trail leaves unset. Those before it are candidates no more.
+fn pass_over(tournament: &mut Tournament, trail: &Trail) -> Option<Candidate>
+    requires { IsPlaced tournament.old }
+    ensures lost { HasLostSet trail.now.steps tournament.old tournament.new }
     ensures first { IsFirst tournament.new result }
     ensures unset { IfSome result (λ a. set_in trail.now.steps a.var.0 ≡ false) }
 {
@@ -249,7 +254,6 @@ fn pass_over(
             return Some(first);
         }
         tournament.enter(first.var.0 as usize, None);
-        passed.push_reserved(first.var);
     }
     None
 }
@@ -265,7 +269,7 @@ fn make_room(
     requires active { IsSome (preference_in preferences.old var.0) }
     requires limit { IsLimited preferences.old }
     requires within { increment ≤ 2 ^ 62 }
-    ensures value { result ≡ (if fits_in preferences.old var.0 increment then increment else increment / 2) }
+    ensures value { result ≡ fitting preferences.old var.0 increment }
     ensures order { preferences.new ≡ (if fits_in preferences.old var.0 increment then preferences.old else map (option_map half_preference) preferences.old) }
     ensures carried { IsCarried preferences.old tournament.old preferences.new tournament.new }
     ensures limit { IsLimited preferences.new }

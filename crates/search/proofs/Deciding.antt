@@ -7,13 +7,16 @@ use Rattle.trail.specs.Trail.{shaped_step, unset_in, level_of, lits_of}
 use Rattle.trail.specs.Laws.{shaped_step-decide, lits_of-newest}
 use Rattle.propagate.specs.Units.{all_quiet}
 use Rattle.analyze.specs.QuietLaws.{decide_keeps}
+use Rattle.pick_order.specs.Orders.{Order, HasPassedSet}
 use Rattle.search_laws.specs.TrailNumber.{trail_number}
 use Rattle.state_laws.specs.Kernel.{Kernel}
 use Rattle.search.specs.declared.work.Work.{Work}
 use Rattle.search.specs.InUse.{in_use, is_among}
+use Rattle.search.specs.Ordering.{HasJust}
 use Rattle.search.specs.Assumed.{HasAssumed, assumption_at}
 use Rattle.search.specs.Searching.{AtMove, HasTables, IsSearching, with_step}
 use Rattle.search.proofs.Assuming.{assumed_pick, assumed_decide}
+use Rattle.search.proofs.Passing.{passed_more}
 use Rattle.search.proofs.Going.{searching_more, number_more}
 
 -- a front of a list is one of a longer list
@@ -46,6 +49,7 @@ tables_step k w s t =
       reserved = t.reserved;
       variables = t.variables;
       order = t.order;
+      passed = passed_more w.order s w.trail.steps t.passed;
       taken = t.taken;
       done = ap (take (length w.watches.done)) (lits_of-newest w.trail.steps s) ∙ front_longer w.watches.done (lits_of w.trail.steps) (s.lit ∷ []) t.done;
       clauses = t.clauses;
@@ -53,11 +57,23 @@ tables_step k w s t =
       few = t.few;
     }
 
--- a decision after all assumptions
-pub picked : (k : Kernel) (w : Work) (l : InLit) → AtMove k w → all_quiet w.trail.steps k.store.held ≡ true → unset_in w.trail.steps l ≡ true → is_among (in_use k.maps) l.var.0 ≡ true → length w.assumptions ≤ w.next → AtMove k (with_step (decision l w.trail.steps) w)
-picked k w l m q u a h =
+-- a decision after all assumptions, of a variable that the order gave
+pub picked : (k : Kernel) (w : Work) (l : InLit) (order : Order) → AtMove k w → all_quiet w.trail.steps k.store.held ≡ true → unset_in w.trail.steps l ≡ true → is_among (in_use k.maps) l.var.0 ≡ true → length w.assumptions ≤ w.next
+    → order ≡ record w.order { candidates = order.candidates } → HasPassedSet order w.trail.steps → AtMove k (record (with_step (decision l w.trail.steps) w) { order = order })
+picked k w l order m q u a h e p =
+    let t : HasTables k (with_step (decision l w.trail.steps) w) = tables_step k w (decision l w.trail.steps) m.tables in
     record {
-      tables = tables_step k w (decision l w.trail.steps) m.tables;
+      tables = record {
+        reserved = t.reserved;
+        variables = t.variables;
+        order = subst (λ (o : Order). HasJust o.known (in_use k.maps)) (sym e) t.order;
+        passed = passed_more order (decision l w.trail.steps) w.trail.steps p;
+        taken = t.taken;
+        done = t.done;
+        clauses = t.clauses;
+        assumptions = t.assumptions;
+        few = t.few;
+      };
       searching = searching_decide k w l m q u a;
       assumes = assumed_pick w.assumptions w.positions w.next w.trail.steps (decision l w.trail.steps) refl h m.assumes;
       fewer = m.fewer;
@@ -69,7 +85,7 @@ pub assumed_next : (k : Kernel) (w : Work) (l : InLit) → AtMove k w → all_qu
 assumed_next k w l m q u a h e =
     let t : HasTables k (with_step (decision l w.trail.steps) w) = tables_step k w (decision l w.trail.steps) m.tables in
     record {
-      tables = record { reserved = t.reserved; variables = t.variables; order = t.order; taken = t.taken; done = t.done; clauses = t.clauses; assumptions = t.assumptions; few = t.few };
+      tables = record { reserved = t.reserved; variables = t.variables; order = t.order; passed = t.passed; taken = t.taken; done = t.done; clauses = t.clauses; assumptions = t.assumptions; few = t.few };
       searching = searching_decide k w l m q u a;
       assumes = assumed_decide w.assumptions w.positions w.next w.trail.steps (decision l w.trail.steps) m.searching.sound refl e h m.assumes;
       fewer = m.fewer;
@@ -79,7 +95,7 @@ assumed_next k w l m q u a h e =
 pub skipped : (k : Kernel) (w : Work) (next : ℕ) → AtMove k w → HasAssumed w.assumptions w.positions next w.trail.steps → AtMove k (record w { next = next })
 skipped k w next m a =
     record {
-      tables = record { reserved = m.tables.reserved; variables = m.tables.variables; order = m.tables.order; taken = m.tables.taken; done = m.tables.done; clauses = m.tables.clauses; assumptions = m.tables.assumptions; few = m.tables.few };
+      tables = record { reserved = m.tables.reserved; variables = m.tables.variables; order = m.tables.order; passed = m.tables.passed; taken = m.tables.taken; done = m.tables.done; clauses = m.tables.clauses; assumptions = m.tables.assumptions; few = m.tables.few };
       searching = m.searching;
       assumes = a;
       fewer = m.fewer;

@@ -23,7 +23,7 @@ use Rattle.analyze.specs.QuietLaws.{conflict_keeps, learned_unit, learned_new}
 use Rattle.search_laws.specs.TrailNumber.{trail_number}
 use Rattle.search_laws.specs.NumberLaws.{conflict_raises}
 use Rattle.search_laws.specs.NumberLaws.{bounded_conflict}
-use Rattle.pick_order.specs.declared.preference.Preference.{Preference}
+use Rattle.pick_order.specs.Orders.{Order, HasPassedSet}
 use Rattle.analyze.specs.declared.analyzer.Analyzer.{Analyzer}
 use Rattle.state_laws.specs.Kernel.{Kernel}
 use Rattle.search.specs.declared.work.Work.{Work}
@@ -34,6 +34,7 @@ use Rattle.search.specs.Searching.{IsSearching, AtMove, EndsShort, gone_back}
 use Rattle.search.specs.Assumed.{positive}
 use Rattle.search.proofs.Assuming.{assumed_jump}
 use Rattle.search.proofs.Orders.{same_just}
+use Rattle.search.proofs.Passing.{passed_more}
 use Rattle.search.proofs.Using.{among_below}
 use Rattle.search.proofs.Conflicting.{learned_among, found_last, not_before, held_within, hard_last, learned_last}
 
@@ -126,7 +127,7 @@ learned_one k n w lits back id m l a =
     }
 
 -- the search after a conflict
-abbrev pub after_conflict : Work → Kernel → InLit → ℕ → ℕ → ℕ → List (Option Preference) → Analyzer → Work
+abbrev pub after_conflict : Work → Kernel → InLit → ℕ → ℕ → ℕ → Order → Analyzer → Work
 after_conflict w n first back id conflicts order analyzer =
     record {
       trail = record { steps = learned_step first back id ∷ back_to back w.trail.steps; reserved = w.trail.reserved };
@@ -140,15 +141,16 @@ after_conflict w n first back id conflicts order analyzer =
     }
 
 -- all that holds between two moves holds after a conflict
-pub jumped : (k n : Kernel) (w : Work) (lits : List InLit) (back id conflicts : ℕ) (order : List (Option Preference)) (analyzer : Analyzer) → AtMove k w → IsKept k.store → (l : IsLearned k.store.held w.trail.steps lits back) → HasAdded k n lits id → HasSame w.order order → conflicts ≡ w.conflicts + 1 → 0 < length k.store.held
+pub jumped : (k n : Kernel) (w : Work) (lits : List InLit) (back id conflicts : ℕ) (order : Order) (analyzer : Analyzer) → AtMove k w → IsKept k.store → (l : IsLearned k.store.held w.trail.steps lits back) → HasAdded k n lits id → HasSame w.order.known order.known → HasPassedSet order (back_to back w.trail.steps) → conflicts ≡ w.conflicts + 1 → 0 < length k.store.held
     → AtMove n (after_conflict w n l.first back id conflicts order analyzer)
-jumped k n w lits back id conflicts order analyzer m s l a o c z =
+jumped k n w lits back id conflicts order analyzer m s l a o p c z =
     subst (λ (x : Kernel). AtMove x (after_conflict w n l.first back id conflicts order analyzer)) (sym a.same)
     (record {
       tables = record {
         reserved = m.tables.reserved;
         variables = m.tables.variables;
-        order = same_just w.order order (in_use k.maps) o m.tables.order;
+        order = same_just w.order.known order.known (in_use k.maps) o m.tables.order;
+        passed = passed_more order (learned_step l.first back id) (back_to back w.trail.steps) p;
         taken = taken;
         done = front_back w.watches.done w.trail.steps (learned_step l.first back id) back m.searching.sound m.tables.done;
         clauses = ap (clauses_among (in_use k.maps)) a.held ∙ all_push (λ (h : Held). lits_among (in_use k.maps) h.lits) k.store.held (held_as id true lits) m.tables.clauses (learned_among (in_use k.maps) k.store.held w.trail.steps lits back m.searching.active l);
@@ -199,13 +201,13 @@ landed_trail k w w1 w2 watches trail lits back id m l e1 e3 e4 =
     level = let x : level_of (back_to back w.trail.steps) ≡ min back (level_of w.trail.steps) = level_of-back_to w.trail.steps back m.searching.sound in let y : back < level_of w.trail.steps = l.below in omega arith
 
 -- and all that holds then
-pub landed : (k n : Kernel) (w w1 w2 : Work) (watches : Watching) (trail : Assignment) (lits : List InLit) (back : ℕ) (id : ClauseId) → AtMove k w → IsKept k.store → (l : IsLearned k.store.held w.trail.steps lits back) → HasAdded k n lits id.0 → HasSame w.order w1.order → w1.conflicts ≡ w.conflicts + 1 → 0 < length k.store.held
+pub landed : (k n : Kernel) (w w1 w2 : Work) (watches : Watching) (trail : Assignment) (lits : List InLit) (back : ℕ) (id : ClauseId) → AtMove k w → IsKept k.store → (l : IsLearned k.store.held w.trail.steps lits back) → HasAdded k n lits id.0 → HasSame w.order.known w1.order.known → HasPassedSet w1.order (back_to back w.trail.steps) → w1.conflicts ≡ w.conflicts + 1 → 0 < length k.store.held
     → w1 ≡ record w { order = w1.order; analyzer = w1.analyzer; conflicts = w1.conflicts }
     → watches ≡ record w1.watches { taken = w1.watches.taken ++ map taken_as (option_to_list (clause_at n.store.held id.0)) }
     → w2 ≡ gone_back back (record w1 { watches = watches })
     → trail ≡ record w2.trail { steps = record { lit = get_or lits 0 (positive 0); level = level_of w2.trail.steps; reason = Some id } ∷ w2.trail.steps }
     → AtMove n (record w2 { trail = trail })
-landed k n w w1 w2 watches trail lits back id m s l a o c z e1 e2 e3 e4 = subst (AtMove n) (sym whole) (jumped k n w lits back id.0 w1.conflicts w1.order w1.analyzer m s l a o c z)
+landed k n w w1 w2 watches trail lits back id m s l a o p c z e1 e2 e3 e4 = subst (AtMove n) (sym whole) (jumped k n w lits back id.0 w1.conflicts w1.order w1.analyzer m s l a o p c z)
   where
     p1 : watches ≡ record w.watches { taken = w.watches.taken ++ map taken_as (option_to_list (clause_at n.store.held id.0)) }
     p1 = e2 ∙ ap (λ (v : Work). record v.watches { taken = v.watches.taken ++ map taken_as (option_to_list (clause_at n.store.held id.0)) }) e1

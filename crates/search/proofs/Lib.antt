@@ -2,6 +2,7 @@ pub mod Assuming
 pub mod Moves
 pub mod Using
 pub mod Orders
+pub mod Passing
 pub mod Owning
 pub mod Starting
 pub mod Going

@@ -79,7 +79,7 @@ all_places : (p : InLit → Bool) (d : InLit) (xs : List InLit) → ((i : ℕ) �
 all_places p d [] h = refl
 all_places p d (x ∷ xs) h = and_from _ _ (h 0 (omega arith)) (all_places p d xs (λ i l. h (suc i) (omega arith)))
 
-pub inner_model : (k : Kernel) (w : Work) (values : List Bool) (n : ℕ) → AtMove k w → all_quiet w.trail.steps k.store.held ≡ true → AllSet w.order w.trail.steps → length w.assumptions ≤ w.next → n ≡ length k.maps.owners → length values ≡ n
+pub inner_model : (k : Kernel) (w : Work) (values : List Bool) (n : ℕ) → AtMove k w → all_quiet w.trail.steps k.store.held ≡ true → AllSet w.order.known w.trail.steps → length w.assumptions ≤ w.next → n ≡ length k.maps.owners → length values ≡ n
     → ((v : ℕ) → v < n → get_or values v false ≡ unwrap_or (value_in w.trail.steps (positive v)) false) → IsInnerModel k w.assumptions values
 inner_model k w values n m q s z e l h =
     record {
@@ -101,4 +101,4 @@ inner_model k w values n m q s z e l h =
     clause : (lits : List InLit) → lits_among (in_use k.maps) lits ≡ true → quiet_clause w.trail.steps lits ≡ true → clause_value (in_value values) lits ≡ true
     clause lits x y =
         all_any_mono (λ (a : InLit). is_among (in_use k.maps) a.var.0) (true_in w.trail.steps) (in_value values) (λ a u v. true_value w.trail.steps values n a m.searching.sound h (inside a u) v) lits x
-        (quiet_true w.trail.steps lits (all_mono (λ (a : InLit). is_among (in_use k.maps) a.var.0) (λ (a : InLit). set_in w.trail.steps a.var.0) (λ a u. all_set w.order (in_use k.maps) w.trail.steps a.var.0 m.tables.order s u) lits x) y)
+        (quiet_true w.trail.steps lits (all_mono (λ (a : InLit). is_among (in_use k.maps) a.var.0) (λ (a : InLit). set_in w.trail.steps a.var.0) (λ a u. all_set w.order.known (in_use k.maps) w.trail.steps a.var.0 m.tables.order s u) lits x) y)

@@ -9,10 +9,12 @@ use Rattle.propagate.specs.declared.watches.Taken.{Taken}
 use Rattle.propagate.specs.declared.watches.Found.{Found}
 use Rattle.propagate.specs.declared.watches.Found.TheVariants.{Quiet, Conflict}
 use Rattle.std.proofs.Math.Seq.{take-length}
+use Rattle.pick_order.specs.Orders.{HasPassedSet}
 use Rattle.state_laws.specs.Kernel.{Kernel}
 use Rattle.search.specs.declared.work.Work.{Work}
 use Rattle.search.specs.InUse.{in_use}
 use Rattle.search.specs.Searching.{AtMove, HasTables}
+use Rattle.search.proofs.Passing.{passed_longer}
 use Rattle.search.proofs.Going.{IsReached, reached}
 
 -- all clauses were taken over
@@ -33,6 +35,7 @@ propagated k w trail watches found a x r s d =
         reserved = r ∙ a.tables.reserved;
         variables = ap (λ (v : Watching). v.variables) s ∙ a.tables.variables;
         order = a.tables.order;
+        passed = subst (HasPassedSet w.order) (sym x.parts) (passed_longer w.order x.newer w.trail.steps a.tables.passed);
         taken = ap (λ (v : Watching). v.taken) s ∙ a.tables.taken;
         done = done_front watches.done (lits_of trail.steps) found d;
         clauses = a.tables.clauses;

@@ -11,6 +11,7 @@ use Rattle.propagate.specs.Watching.{Watching, IsFront, taken_as}
 use Rattle.state_laws.specs.Kernel.{Kernel, Standing}
 use Rattle.pick_order.specs.declared.preference.Preference.{Preference}
 use Rattle.pick_order.specs.Preferences.{preference_in, prepared}
+use Rattle.pick_order.specs.Orders.{HasPassedSet}
 use Rattle.search.specs.InUse.{in_use, is_among, lits_among}
 use Rattle.search.specs.Assumed.{HasAssumed}
 use Rattle.search.specs.declared.work.Work.{Work}
@@ -41,14 +42,15 @@ searching_start held numbers = record {
 
 -- all tables are made anew
 pub begun : (k : Kernel) (w : Work) (given : List InLit) (n : ℕ) → n ≡ length k.maps.owners → w.trail ≡ record { steps = []; reserved = max 0 n } → w.watches ≡ record { taken = map taken_as k.store.held; done = []; variables = n }
-    → HasJust w.order (in_use k.maps) → w.assumptions ≡ given → w.positions ≡ [] → w.next ≡ 0 → w.conflicts ≡ 0 → Standing k → lits_among (in_use k.maps) given ≡ true → length given < 2 ^ 32 → AtMove k w
-begun k w given n e t s o a p x y z l f =
+    → HasJust w.order.known (in_use k.maps) → HasPassedSet w.order [] → w.assumptions ≡ given → w.positions ≡ [] → w.next ≡ 0 → w.conflicts ≡ 0 → Standing k → lits_among (in_use k.maps) given ≡ true → length given < 2 ^ 32 → AtMove k w
+begun k w given n e t s o b a p x y z l f =
     let r : max 0 n ≡ n = omega arith in
     record {
       tables = record {
         reserved = ap (λ (v : Assignment). v.reserved) t ∙ (r ∙ e);
         variables = ap (λ (v : Watching). v.variables) s ∙ e;
         order = o;
+        passed = subst (λ (v : Assignment). HasPassedSet w.order v.steps) (sym t) b;
         taken = ap (λ (v : Watching). v.taken) s;
         done = subst (λ (v : Watching). IsFront v.done (lits_of w.trail.steps)) (sym s) refl;
         clauses = held_among k z;

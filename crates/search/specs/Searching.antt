@@ -7,6 +7,7 @@ use Rattle.propagate.specs.Reasons.{reasoned}
 use Rattle.propagate.specs.Watching.{IsFront, taken_as}
 use Rattle.analyze.specs.Quiet.{QuietBelow}
 use Rattle.analyze.specs.Counting.{saturated}
+use Rattle.pick_order.specs.Orders.{HasPassedSet}
 use Rattle.search_laws.specs.TrailNumber.{IsBounded}
 use Rattle.state_laws.specs.Kernel.{Kernel}
 use Rattle.search.specs.declared.work.Work.{Work}
@@ -23,11 +24,12 @@ pub record IsSearching (held : List Held) (numbers : List ℕ) (conflicts : ℕ)
   pub quiet : QuietBelow held steps
   pub bound : IsBounded (length numbers) steps conflicts
 
--- the tables of a search are those of the state
+-- the tables of a search are those of the state, and what the order passed over is set
 pub record HasTables (k : Kernel) (work : Work) : Type 0 where
   pub reserved : work.trail.reserved ≡ length k.maps.owners
   pub variables : work.watches.variables ≡ length k.maps.owners
-  pub order : HasJust work.order (in_use k.maps)
+  pub order : HasJust work.order.known (in_use k.maps)
+  pub passed : HasPassedSet work.order work.trail.steps
   pub taken : work.watches.taken ≡ map taken_as k.store.held
   pub done : IsFront work.watches.done (lits_of work.trail.steps)
   pub clauses : clauses_among (in_use k.maps) k.store.held ≡ true

@@ -1,10 +1,11 @@
 ghost use Rattle.std.specs.Prelude.{◌≡◌, ◌≤◌, ◌<◌, ◌+◌, ◌^◌, length, slice_index_or, take, IfOk, OnOk, OnErr, IsTrue};
-ghost use Rattle.trail.specs.Trail.{level_of};
+ghost use Rattle.trail.specs.Trail.{level_of, back_to};
 ghost use Rattle.propagate.specs.Units.{false_clause};
 ghost use Rattle.propagate.specs.Reasons.{names};
 ghost use Rattle.clause_store.specs.Store.{IsKept};
 ghost use Rattle.analyze.specs.Counting.{saturated};
 ghost use Rattle.analyze.specs.LearnedClauses.{ClauseFollows, IsLearned, has_each_once};
+ghost use Rattle.pick_order.specs.Orders.{HasPassedSet, HasSamePassed};
 ghost use Rattle.search_laws.specs.TrailNumber.{trail_number};
 ghost use Rattle.search.specs.InUse.{in_use, lits_among};
 ghost use Rattle.search.specs.Ordering.{lits_ordered, steps_ordered, HasSame};
@@ -50,8 +51,8 @@ impl Work {
         Ok(())
     }
 
-    /// Learns a clause from a conflict above level 0, counts it, and prefers its variables from now
-    /// on.
+    /// Learns a clause from a conflict above level 0, counts it, prefers its variables from now on,
+    /// and lets go of what is above its level.
     fn analyze(
         &mut self,
         state: &PrivateState,
@@ -62,7 +63,8 @@ impl Work {
         requires conflict { IsTrue (names state.now.store.held conflict (false_clause self.old.trail.steps)) }
         requires level { 0 < level_of self.old.trail.steps }
         ensures learned { IfOk result (λ learned. IsLearned state.now.store.held self.old.trail.steps learned.lits learned.back) }
-        ensures order { OnOk result (HasSame self.old.order self.new.order) }
+        ensures order { OnOk result (HasSame self.old.order.known self.new.order.known) }
+        ensures passed { IfOk result (λ learned. HasPassedSet self.new.order (back_to learned.back self.old.trail.steps)) }
         ensures counted { OnOk result (self.new.conflicts ≡ saturated self.old.conflicts 1) }
         ensures tallied { OnOk result (tally.new ≡ saturated tally.old 1) }
         ensures conflicts { OnErr result (self.new.conflicts ≡ self.old.conflicts) }
@@ -76,7 +78,7 @@ impl Work {
         let learned = self.analyzer.learn(store, &self.trail, conflict, tally)?;
         self.conflicts = self.conflicts.saturating_add(1);
         bump_all(&mut self.order, learned.lits.as_slice());
-        keep_phases(&mut self.order, &self.trail, learned.back);
+        let_go(&mut self.order, &self.trail, learned.back);
         Ok(learned)
     }
 
@@ -109,25 +111,30 @@ fn add_clause(alloc: Global, state: &mut PrivateState, lits: &[InLit]) -> Result
 
 /// Bumps the variables of literals.
 fn bump_all(order: &mut PickOrder, lits: &[InLit])
-    requires { IsTrue (lits_ordered order.old lits.now) }
-    ensures { HasSame order.old order.new }
+    requires { IsTrue (lits_ordered order.old.known lits.now) }
+    ensures same { HasSame order.old.known order.new.known }
+    ensures passed { HasSamePassed order.old order.new }
 {
     for lit in lits {
         order.bump(lit.var);
     }
 }
 
-/// Keeps the signs of the literals above a level, which are about to be taken back.
-fn keep_phases(order: &mut PickOrder, trail: &Trail, level: u32)
-    requires { IsTrue (steps_ordered order.old trail.now.steps) }
-    ensures { HasSame order.old order.new }
+/// Keeps the signs of the literals above a level, which are about to be taken back, and puts their
+/// variables back into the order.
+fn let_go(order: &mut PickOrder, trail: &Trail, level: u32)
+    requires steps { IsTrue (steps_ordered order.old.known trail.now.steps) }
+    requires passed { HasPassedSet order.old trail.now.steps }
+    ensures same { HasSame order.old.known order.new.known }
+    ensures passed { HasPassedSet order.new (back_to level trail.now.steps) }
 {
     let lits = trail.lits();
     for place in (0..lits.len()).rev() {
         let lit = lits[place];
-        if trail.level_of(lit.var) <= Some(level) {
+        if trail.level_of(lit.var).unwrap_or(0) <= level {
             return;
         }
         order.keep_phase(lit);
+        order.put_back(lit.var);
     }
 }

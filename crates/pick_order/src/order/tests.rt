@@ -1,3 +1,6 @@
+ghost use Rattle.std.specs.Prelude.{◌≡◌, true, IsTrue};
+ghost use Rattle.pick_order.specs.Orders.{HasPassedSet};
+
 use super::*;
 use std::process::Abort;
 use std::test::Fail;
@@ -35,6 +38,24 @@ fn keep_phase(rt: &impl Abort, order: &mut PickOrder, lit: InLit) {
     order.keep_phase(lit);
 }
 
+/// Whether a trail sets every variable that an order passed over.
+fn sets_passed(order: &PickOrder, trail: &Trail) -> bool
+    ensures { IsTrue result → HasPassedSet order.now trail.now.steps }
+{
+    for number in 0..order.preferences.len() {
+        let var = Inner(number as u32);
+        if order.is_passed(var) && !is_set(trail, var) {
+            return false;
+        }
+    }
+    true
+}
+
+fn next(rt: &impl Abort, order: &mut PickOrder, trail: &Trail) -> Option<InLit> {
+    assert!(rt; sets_passed(order, trail));
+    order.next(trail)
+}
+
 #[test]
 fn two_variables_are_picked_until_both_are_set(rt: HostRuntime) -> Result<(), Fail> {
     let mut order = PickOrder::new(rt.alloc());
@@ -42,10 +63,41 @@ fn two_variables_are_picked_until_both_are_set(rt: HostRuntime) -> Result<(), Fa
     let none = trail_of(&rt, rt.alloc(), &[])?;
     let one = trail_of(&rt, rt.alloc(), &[0])?;
     let both = trail_of(&rt, rt.alloc(), &[0, 1])?;
-    assert_eq!(rt; order.next(&none), Some(literal(0, true)));
-    assert_eq!(rt; order.next(&one), Some(literal(1, true)));
-    assert_eq!(rt; order.next(&both), None);
-    assert_eq!(rt; order.next(&none), Some(literal(0, true)), "0 is back");
+    assert_eq!(rt; next(&rt, &mut order, &none), Some(literal(0, true)));
+    assert_eq!(rt; next(&rt, &mut order, &one), Some(literal(1, true)));
+    assert_eq!(rt; next(&rt, &mut order, &both), None);
+    order.put_back_unset(&none);
+    assert_eq!(rt;
+        next(&rt, &mut order, &none),
+        Some(literal(0, true)),
+        "0 is back"
+    );
+    assert_eq!(rt; next(&rt, &mut order, &both), None);
+    order.put_back(Inner(0));
+    order.put_back(Inner(1));
+    assert_eq!(rt; next(&rt, &mut order, &none), Some(literal(0, true)));
+    Ok(())
+}
+
+#[test]
+fn a_variable_is_passed_until_it_is_put_back(rt: HostRuntime) -> Result<(), Fail> {
+    let mut order = PickOrder::new(rt.alloc());
+    order.prepare(&[Inner(0), Inner(1), Inner(3)], true)?;
+    let both = trail_of(&rt, rt.alloc(), &[0, 1])?;
+    let one = trail_of(&rt, rt.alloc(), &[1])?;
+    assert_eq!(rt; next(&rt, &mut order, &both), Some(literal(3, false)));
+    let passed = [true, true, false, false, false];
+    for (var, passed) in passed.iter().enumerate() {
+        assert_eq!(rt; order.is_passed(Inner(var as u32)), *passed, "of {var}");
+    }
+    order.put_back_unset(&one);
+    assert!(rt; !order.is_passed(Inner(0)) && order.is_passed(Inner(1)));
+    for var in [0, 2, 4, u32::MAX] {
+        order.put_back(Inner(var));
+        assert!(rt; order.is_passed(Inner(1)), "after {var}");
+    }
+    order.put_back(Inner(1));
+    assert!(rt; !order.is_passed(Inner(1)));
     Ok(())
 }
 
@@ -56,23 +108,24 @@ fn a_bumped_variable_comes_first(rt: HostRuntime) -> Result<(), Fail> {
     let none = trail_of(&rt, rt.alloc(), &[])?;
     let seven = trail_of(&rt, rt.alloc(), &[7])?;
     assert_eq!(rt;
-        order.next(&none),
+        next(&rt, &mut order, &none),
         Some(literal(2, false)),
         "the least number"
     );
     bump(&rt, &mut order, 7);
     bump(&rt, &mut order, 7);
     bump(&rt, &mut order, 5);
-    assert_eq!(rt; order.next(&none), Some(literal(7, false)));
-    assert_eq!(rt; order.next(&seven), Some(literal(5, false)));
+    assert_eq!(rt; next(&rt, &mut order, &none), Some(literal(7, false)));
+    assert_eq!(rt; next(&rt, &mut order, &seven), Some(literal(5, false)));
     bump(&rt, &mut order, 7);
     assert_eq!(rt;
-        order.next(&seven),
+        next(&rt, &mut order, &seven),
         Some(literal(5, false)),
         "7 is still set"
     );
     keep_phase(&rt, &mut order, literal(7, true));
-    assert_eq!(rt; order.next(&none), Some(literal(7, true)));
+    order.put_back(Inner(7));
+    assert_eq!(rt; next(&rt, &mut order, &none), Some(literal(7, true)));
     Ok(())
 }
 
@@ -86,11 +139,11 @@ fn what_is_known_outlives_prepare(rt: HostRuntime) -> Result<(), Fail> {
     let none = trail_of(&rt, rt.alloc(), &[])?;
     let three = trail_of(&rt, rt.alloc(), &[3])?;
     let more = trail_of(&rt, rt.alloc(), &[0, 3])?;
-    assert_eq!(rt; order.next(&none), Some(literal(3, false)));
-    assert_eq!(rt; order.next(&three), Some(literal(0, true)));
-    assert_eq!(rt; order.next(&more), Some(literal(4, true)));
+    assert_eq!(rt; next(&rt, &mut order, &none), Some(literal(3, false)));
+    assert_eq!(rt; next(&rt, &mut order, &three), Some(literal(0, true)));
+    assert_eq!(rt; next(&rt, &mut order, &more), Some(literal(4, true)));
     order.prepare(&[Inner(4)], false)?;
-    assert_eq!(rt; order.next(&none), Some(literal(4, true)));
+    assert_eq!(rt; next(&rt, &mut order, &none), Some(literal(4, true)));
     assert_eq!(rt; order.preference_of(Inner(3)), None);
     Ok(())
 }

@@ -9,6 +9,7 @@ use Rattle.search.specs.Ordering.{lits_ordered}
 use Rattle.analyze.specs.QuietLaws.{conflict_present}
 use Rattle.search.proofs.Conflicting.{named_live, live_among, learned_among}
 use Rattle.search.proofs.Orders.{lits_in_order, steps_in_order, same_just}
+use Rattle.search.proofs.Passing.{passed_as}
 use Rattle.search.proofs.work.Work.analyze.Goals as goal
 use Rattle.search.proofs.work.Work.analyze.Goals.{After-as_slice}
 
@@ -17,7 +18,7 @@ lits-requires c = subst (λ (s : Store). is_live s.held c.args.conflict.0 ≡ tr
 
 pub bump_all-requires : goal.bump_all-requires
 bump_all-requires c =
-    lits_in_order c.args.self.now.order (in_use c.args.state.now.maps) c.lits.result.now c.requires.at.tables.order
+    lits_in_order c.args.self.now.order.known (in_use c.args.state.now.maps) c.lits.result.now c.requires.at.tables.order
     (live_among (in_use c.args.state.now.maps) c.args.state.now.store.held c.args.conflict.0 c.lits.result.now c.requires.at.tables.clauses
     (subst (λ (s : Store). option_map (λ (h : Held). h.lits) (clause_at s.held c.args.conflict.0) ≡ Some c.lits.result.now) c.clauses-store.ensures c.lits.ensures.value))
 
@@ -28,12 +29,17 @@ learn-requires-clause-present c =
 
 pub bump_all-requires-2 : goal.bump_all-requires-2
 bump_all-requires-2 c =
-    subst (λ (ls : List InLit). lits_ordered c.bump_all.new.order ls ≡ true) (sym c.as_slice.ensures)
-    (lits_in_order c.bump_all.new.order (in_use c.args.state.now.maps) c.in_ok-learned.learned.lits (same_just c.args.self.now.order c.bump_all.new.order (in_use c.args.state.now.maps) c.bump_all.ensures c.requires.at.tables.order)
+    subst (λ (ls : List InLit). lits_ordered c.bump_all.new.order.known ls ≡ true) (sym c.as_slice.ensures)
+    (lits_in_order c.bump_all.new.order.known (in_use c.args.state.now.maps) c.in_ok-learned.learned.lits (same_just c.args.self.now.order.known c.bump_all.new.order.known (in_use c.args.state.now.maps) c.bump_all.ensures.same c.requires.at.tables.order)
     (learned_among (in_use c.args.state.now.maps) c.clauses-store.result.now.held c.args.self.now.trail.steps c.in_ok-learned.learned.lits c.in_ok-learned.learned.back c.requires.at.searching.active c.in_ok-learned.ensures.learned))
 
-pub keep_phases-requires : goal.keep_phases-requires
-keep_phases-requires c =
-    steps_in_order c.bump_all-2.new.order (in_use c.args.state.now.maps) c.args.self.now.trail.steps
-    (same_just c.bump_all.new.order c.bump_all-2.new.order (in_use c.args.state.now.maps) c.bump_all-2.ensures (same_just c.args.self.now.order c.bump_all.new.order (in_use c.args.state.now.maps) c.bump_all.ensures c.requires.at.tables.order))
+pub let_go-requires-clause-steps : goal.let_go-requires-clause-steps
+let_go-requires-clause-steps c =
+    steps_in_order c.bump_all-2.new.order.known (in_use c.args.state.now.maps) c.args.self.now.trail.steps
+    (same_just c.bump_all.new.order.known c.bump_all-2.new.order.known (in_use c.args.state.now.maps) c.bump_all-2.ensures.same (same_just c.args.self.now.order.known c.bump_all.new.order.known (in_use c.args.state.now.maps) c.bump_all.ensures.same c.requires.at.tables.order))
     c.requires.at.searching.active
+
+pub let_go-requires-clause-passed : goal.let_go-requires-clause-passed
+let_go-requires-clause-passed c =
+    passed_as c.bump_all.new.order c.bump_all-2.new.order c.args.self.now.trail.steps c.bump_all-2.ensures.passed
+    (passed_as c.args.self.now.order c.bump_all.new.order c.args.self.now.trail.steps c.bump_all.ensures.passed c.requires.at.tables.passed)

@@ -7,6 +7,7 @@ use Rattle.sat_lits.specs.declared.literal.Inner.{Inner}
 use Rattle.search.specs.InUse.{in_use}
 use Rattle.search.proofs.Using.{clauses_among_below}
 use Rattle.search.proofs.Owning.{held_among}
+use Rattle.search.proofs.Passing.{passed_none}
 use Rattle.search.proofs.Starting.{prepared_just, begun}
 use Rattle.search.proofs.work.Work.begin.Goals as goal
 use Rattle.search.proofs.work.Work.begin.Goals.{After-clauses}
@@ -26,6 +27,6 @@ returns-clause-at c =
     c.args.assumptions.now c.inner_len-variables.result (variables_are (goal.at.returns-clause-at c).After-clauses)
     (c.in_ok-reserve.ensures.ok ∙ ap (λ (t : Assignment). record { steps = t.steps; reserved = max t.reserved c.inner_len-variables.result }) c.new.ensures)
     (c.in_ok-prepare-2.ensures.ok ∙ ap (λ (s : Store). record { taken = map taken_as s.held; done = []; variables = c.inner_len-variables.result }) c.clauses.ensures)
-    (prepared_just c.as_slice.result.now c.args.phase c.args.self.now.order c.prepare.new.self (in_use c.args.state.now.maps) c.in_ok-prepare.ensures.ok
+    (prepared_just c.as_slice.result.now c.args.phase c.args.self.now.order.known c.prepare.new.self.known (in_use c.args.state.now.maps) c.in_ok-prepare.ensures.ok
     (ap (map (λ (i : Inner). i.0)) c.as_slice.ensures ∙ (c.in_ok-numbers.ensures ∙ ap in_use c.maps-2.ensures)))
-    c.in_ok-self.ensures c.clear.ensures refl refl c.stands.ensures c.requires.active c.requires.few
+    (passed_none c.prepare.new.self [] c.in_ok-prepare.ensures.passed) c.in_ok-self.ensures c.clear.ensures refl refl c.stands.ensures c.requires.active c.requires.few

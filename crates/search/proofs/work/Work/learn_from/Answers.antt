@@ -95,7 +95,7 @@ assign-requires-clause-unset c =
 pub returns-clause-at : goal.returns-clause-at
 returns-clause-at c =
     landed c.args.state.now c.add_clause.new.state c.args.self.now c.analyze.new.self c.go_back.new.self c.attach.new.self c.assign.new.self c.in_ok-learned.learned.lits c.in_ok-learned.learned.back c.in_ok-id.id c.requires.at c.in_ok-learned.ensures.kept c.in_ok-learned.ensures.learned
-    (is_added (goal.at.returns-clause-at c).After-clauses) c.in_ok-learned.ensures.order (one_more (goal.at.returns-clause-at c).After-clauses) (some_clause (goal.at.returns-clause-at c).After-clauses) c.analyze.ensures.same
+    (is_added (goal.at.returns-clause-at c).After-clauses) c.in_ok-learned.ensures.order c.in_ok-learned.ensures.passed (one_more (goal.at.returns-clause-at c).After-clauses) (some_clause (goal.at.returns-clause-at c).After-clauses) c.analyze.ensures.same
     (c.in_ok-attach.ensures.ok ∙ ap (λ (s : Store). record c.analyze.new.self.watches { taken = c.analyze.new.self.watches.taken ++ map taken_as (option_to_list (clause_at s.held c.in_ok-id.id.0)) }) c.clauses.ensures)
     c.go_back.ensures (assigned (goal.at.returns-clause-at c).After-assign)
 

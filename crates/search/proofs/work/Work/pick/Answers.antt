@@ -1,14 +1,13 @@
-use Rattle.std.proofs.Common.{◌≡◌, ◌<◌, ◌∷◌, ℕ, length, true, not, List, Option, refl, sym, ap, subst, ◌∙◌, ltb-true}
+use Rattle.std.proofs.Common.{◌≡◌, ◌<◌, ℕ, length, true, not, refl, sym, ap, subst, ◌∙◌, ltb-true}
 use Rattle.std.specs.Option.{is_some}
 use Rattle.trail.specs.Trail.{Assignment}
 use Rattle.var_maps.specs.Maps.{Maps}
-use Rattle.pick_order.specs.declared.preference.Preference.{Preference}
 use Rattle.search_laws.specs.TrailNumber.{trail_number}
 use Rattle.search.specs.InUse.{in_use, is_among}
 use Rattle.search.specs.Searching.{AtMove}
 use Rattle.search.proofs.Using.{among_below}
 use Rattle.search.proofs.Modelling.{inner_model}
-use Rattle.search.proofs.Deciding.{decision, picked, decide_rises}
+use Rattle.search.proofs.Deciding.{picked, decide_rises}
 use Rattle.search.proofs.work.Work.pick.Goals as goal
 use Rattle.search.proofs.work.Work.pick.Goals.{In-Some}
 
@@ -26,8 +25,8 @@ decide-requires-clause-unset c = ap not c.in-Some.ensures.some.1.unset
 pub returns-in-Some-clause-at : goal.returns-in-Some-clause-at
 returns-in-Some-clause-at c =
     subst (λ (t : Assignment). AtMove c.args.state.now (record c.args.self.now { trail = t; order = c.next.new.self })) (sym c.decide.ensures)
-    (subst (λ (o : List (Option Preference)). AtMove c.args.state.now (record c.args.self.now { trail = record c.args.self.now.trail { steps = decision c.in-Some.lit c.args.self.now.trail.steps ∷ c.args.self.now.trail.steps }; order = o })) (sym c.next.ensures.same)
-    (picked c.args.state.now c.args.self.now c.in-Some.lit c.requires.at c.requires.quiet (ap not c.in-Some.ensures.some.1.unset) (picked_among (goal.at.returns-in-Some-clause-at c).In-Some) c.requires.next))
+    (picked c.args.state.now c.args.self.now c.in-Some.lit c.next.new.self c.requires.at c.requires.quiet (ap not c.in-Some.ensures.some.1.unset) (picked_among (goal.at.returns-in-Some-clause-at c).In-Some) c.requires.next
+    c.next.ensures.same c.next.ensures.passed)
 
 pub returns-in-Some-clause-rises : goal.returns-in-Some-clause-rises
 returns-in-Some-clause-rises c =
