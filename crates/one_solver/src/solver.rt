@@ -100,6 +100,7 @@ impl OneSolver {
     pub fn begin_call(&mut self, assumptions: &[Lit]) -> Result<(), NoMemory>
         requires { assumptions.now ≡ [] }
         ensures begun { (self.new.conflicts ≡ 0) × (self.new.interval ≡ 0) }
+        ensures under_way { IsUnderWay self.new }
         ensures fixed { OnOk result (IsTrue self.new.kernel.okay → FixesUnits self.old.kernel self.new.kernel) }
         ensures left { OnOk result (IsTrue self.new.kernel.okay → HasNoUnits self.new.kernel) }
         ensures problem { problem_in self.new ≡ problem_in self.old }

@@ -6,15 +6,7 @@ use Rattle.one_solver.specs.Parts.{Parts, problem_in}
 use Rattle.one_solver.specs.Steps.{IsUnderWay, EndsInterval, SpendsLimit}
 use Rattle.sat_api.specs.Decisions.{SpentLimit}
 
--- a call that begins
-pub under_way_first : (s : Parts) → s.conflicts ≡ 0 → s.interval ≡ 0 → IsUnderWay s
-under_way_first s c i = record {
-  counted = c ∙ sym (ap intervals_len i);
-  few = omega arith;
-  short = λ j h. absurd (omega arith);
-}
-
--- and it is within every limit
+-- a call that begins is within every limit
 pub within_first : (s : Parts) (limit : Option ℕ) → s.conflicts ≡ 0 → IfSome limit (λ m. s.conflicts ≤ m)
 within_first s None c = tt
 within_first s (Some m) c = omega arith
