@@ -20,6 +20,10 @@ values_text values = flat_map (λ entry. literal_text (not entry.1) entry.0) (en
 abbrev pub literals_text : List Lit → List ℕ
 literals_text lits = flat_map (λ lit. literal_text lit.negative lit.var.0) lits
 
+-- counts in order, each behind a blank
+abbrev pub counts_text : List ℕ → List ℕ
+counts_text counts = flat_map (λ count. codes " " ++ decimal count) counts
+
 -- the lines that report a verdict
 abbrev pub text_of_verdict : Verdict → List ℕ
 text_of_verdict (Sat values) = codes "s SATISFIABLE\nv" ++ values_text values ++ codes " 0\n"
@@ -28,3 +32,7 @@ text_of_verdict (Unsat failed) = codes "s UNSATISFIABLE\nc failed" ++ literals_t
 -- the line that reports a refusal
 abbrev pub text_of_refusal : Refusal → List ℕ
 text_of_refusal NotPlain = codes "c refused not-plain\n"
+
+-- the lines that report a spent conflict limit, with these counts
+abbrev pub text_of_limit : List ℕ → List ℕ
+text_of_limit counts = codes "s INDETERMINATE\nc limit" ++ counts_text counts ++ codes "\n"

@@ -11,6 +11,6 @@ mod token;
 
 pub use command::{Command, Commands};
 pub use plain::plain_texts;
-pub use print::{print_refusal, print_verdict};
+pub use print::{print_limit, print_refusal, print_verdict};
 pub use reader::Reader;
 pub use refusal::{ReadError, Refusal};

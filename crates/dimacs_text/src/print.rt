@@ -1,5 +1,5 @@
 ghost use Rattle.std.specs.Prelude.{◌≡◌, ◌+◌, ◌-◌, ◌^◌, ◌<◌, ◌++◌, OnOk, OnErr, string_bytes};
-ghost use Rattle.dimacs_text.specs.Texts.{literal_text, values_text, literals_text, text_of_verdict, text_of_refusal};
+ghost use Rattle.dimacs_text.specs.Texts.{literal_text, values_text, literals_text, counts_text, text_of_verdict, text_of_refusal, text_of_limit};
 
 use crate::refusal::Refusal;
 use sat_lits::{List, Lit, NoMemory, Verdict};
@@ -23,6 +23,17 @@ pub fn print_refusal(to: &mut List<u8>, refusal: &Refusal) -> Result<(), NoMemor
     match refusal {
         Refusal::NotPlain => to.extend_from_slice(b"c refused not-plain\n"),
     }
+}
+
+/// Appends the lines that report a spent conflict limit, with a count for each solver. For want of
+/// memory the list stays as it was.
+pub fn print_limit(to: &mut List<u8>, counts: &[u64]) -> Result<(), NoMemory>
+    ensures ok { OnOk result (to.new ≡ to.old ++ text_of_limit counts.now) }
+    ensures err { OnErr result (to.new ≡ to.old) }
+{
+    let mut text = String::new(to.allocator());
+    write_limit(&mut text, counts)?;
+    to.extend_from_slice(text.as_bytes())
 }
 
 fn write_verdict(text: &mut String, verdict: &Verdict) -> Result<(), AllocError>
@@ -70,6 +81,24 @@ fn write_literal(text: &mut String, negative: bool, var: usize) -> Result<(), Al
     write!(text, " {sign}{}", var + 1)
 }
 
+fn write_limit(text: &mut String, counts: &[u64]) -> Result<(), AllocError>
+    ensures { OnOk result (string_bytes text.new ≡ string_bytes text.old ++ text_of_limit counts.now) }
+{
+    text.push_str("s INDETERMINATE\nc limit")?;
+    write_counts(text, counts)?;
+    text.push_str("\n")
+}
+
+/// Writes a blank before each count.
+fn write_counts(text: &mut String, counts: &[u64]) -> Result<(), AllocError>
+    ensures { OnOk result (string_bytes text.new ≡ string_bytes text.old ++ counts_text counts.now) }
+{
+    for count in counts {
+        write!(text, " {count}")?;
+    }
+    Ok(())
+}
+
 #[cfg(test)]
 mod tests {
     use super::*;
@@ -77,7 +106,7 @@ mod tests {
     use std::test::Fail;
 
     #[test]
-    fn prints_verdicts_and_refusals(rt: HostRuntime) -> Result<(), Fail> {
+    fn prints_verdicts_refusals_and_limits(rt: HostRuntime) -> Result<(), Fail> {
         let alloc = rt.alloc();
         let one = Lit {
             var: Var(0),
@@ -99,11 +128,15 @@ mod tests {
             &Verdict::Unsat(List::from_slice(alloc, &[one, minus_four])?),
         )?;
         print_refusal(&mut text, &Refusal::NotPlain)?;
+        print_limit(&mut text, &[0])?;
+        print_limit(&mut text, &[109, 18_446_744_073_709_551_615])?;
         let lines = b"s SATISFIABLE\nv 1 -2 0\n\
             s SATISFIABLE\nv 0\n\
             s UNSATISFIABLE\nc failed 0\n\
             s UNSATISFIABLE\nc failed 1 -4 0\n\
-            c refused not-plain\n";
+            c refused not-plain\n\
+            s INDETERMINATE\nc limit 0\n\
+            s INDETERMINATE\nc limit 109 18446744073709551615\n";
         assert_eq!(rt; text.as_slice(), lines.as_slice());
         Ok(())
     }

@@ -3,4 +3,5 @@ pub mod Verdicts
 pub mod Carried
 pub mod Refusals
 pub mod Errors
+pub mod Options
 pub mod Ran

@@ -1,27 +1,34 @@
 -- What a run comes to.
-use Rattle.std.proofs.Common.{◌≡◌, ◌⊎◌, ℕ, ◌<◌, Bool, false, List, [], ◌∷◌, ◌++◌, Some, None, refl, sym, ap, ◌∙◌, subst, inl, inr, append-nil, arith}
+use Rattle.std.proofs.Common.{◌≡◌, ◌⊎◌, ℕ, ◌<◌, ◌≤◌, Bool, false, List, [], ◌∷◌, ◌++◌, Some, None, Result, Err, refl, sym, ap, ◌∙◌, subst, inl, inr, append-nil, arith}
 use Rattle.std.specs.declared.option.Option.{Option}
 use Rattle.std.specs.Io.KnownBytes.{Consumes, IsAtEnd}
 use Rattle.std.proofs.lemmas.Bool.{true≢false}
+use Rattle.sat_lits.specs.Conflicts.{own_count, enough}
 use Rattle.sat_lits.specs.Limits.{standard_limits}
 use Rattle.sat_lits.specs.Meaning.{Problem, IsModel}
-use Rattle.sat_lits.specs.Verdicts.{IsRight, IsFailed, StandAt, makes_true}
+use Rattle.sat_lits.specs.Verdicts.{IsFailed, StandAt, makes_true}
 use Rattle.sat_lits.specs.declared.literal.Lit.{Lit}
-use Rattle.sat_lits.specs.declared.verdict.Verdict.{Verdict}
 use Rattle.sat_lits.specs.declared.verdict.Verdict.TheVariants as verdict
 use Rattle.sat_api.specs.State.{SolverState}
-use Rattle.sat_api.specs.declared.solver.Answer.{Answer}
-use Rattle.sat_api.specs.declared.solver.Answer.TheVariants.{Sat, Unsat}
+use Rattle.sat_api.specs.Answers.{RoseBy}
 use Rattle.dimacs_text.specs.Grammar.{Reading, End, Ended, Refused, reading_of}
-use Rattle.dimacs_text.specs.Texts.{text_of_verdict, text_of_refusal}
+use Rattle.dimacs_text.specs.Texts.{text_of_refusal}
 use Rattle.dimacs_text.specs.declared.command.Command.{Command}
 use Rattle.dimacs_text.specs.declared.refusal.Refusal.{Refusal}
 use Rattle.sat_tool.specs.Questions.{problem_of}
-use Rattle.sat_tool.specs.Progress.{HasCarriedAll, ReadsAll, ReadsRefusal}
-use Rattle.sat_tool.specs.Writing.{Port}
-use Rattle.sat_tool.specs.Runs.{IsVerdictOn, WritesAnswer, StopsAnswer, StopsRefusal, IsOutputAt, IsOutputFor, AnswersText, StopsRight, RunsRight, IsAmong, status_of, status_of_stop}
+use Rattle.sat_tool.specs.Progress.{HasCarriedAll, ReadsAll, ReadsRefusal, settings_of}
+use Rattle.sat_tool.specs.Reports.{SpendsLimit, IsReportOn, text_of_report, status_of, WritesReport, StopsReport, StopsRefusal}
+use Rattle.sat_tool.specs.Words.{options_of, with_options}
+use Rattle.sat_tool.specs.Errors.{stop_for}
+use Rattle.sat_tool.specs.Writing.{Port, WritesText}
+use Rattle.sat_tool.specs.Runs.{IsOutputAt, IsOutputFor, AnswersText, CutsOutput, StopsRight, RunsRight, IsAmong, LeavesEnough, formula_of, status_of_stop}
+use Rattle.sat_tool.specs.declared.report.Report.{Report}
+use Rattle.sat_tool.specs.declared.report.Report.TheVariants as report
+use Rattle.sat_tool.specs.declared.stop.Halt.{Halt}
+use Rattle.sat_tool.specs.declared.stop.Halt.TheVariants as halt
 use Rattle.sat_tool.specs.declared.stop.Stop.{Stop}
 use Rattle.sat_tool.specs.declared.stop.Stop.TheVariants as stop
+use Rattle.sat_tool.specs.declared.words.Options.{Options}
 
 -- what was read to the end is the whole text
 whole_text : (before now : Option (List ℕ)) (read text : List ℕ) → before ≡ Some text → Consumes before now read → IsAtEnd now → read ≡ text
@@ -48,61 +55,86 @@ refused_reading before now text why e r =
     let l = left_text before now r.text text e r.consumed in
     ap (λ (xs : List ℕ). (reading_of standard_limits xs).end) (sym l.2) ∙ r.refused l.0 l.1
 
--- the text was read, and a verdict was written
-pub answers_text : (answer : Answer) (source_before source_now sink_before sink_now : Port) (s t : SolverState) → ReadsAll source_before.bytes source_now.bytes s → t.problem ≡ s.problem
-    → WritesAnswer answer s.problem t sink_before sink_now → AnswersText answer source_before source_now sink_before sink_now t
-answers_text answer source_before source_now sink_before sink_now s t r same w =
+-- a solver that reads a formula keeps its limits, so what it reports holds of it as it was before
+report_since : (r : Report) (f g : Problem) (before asked now : SolverState) → f ≡ g → settings_of asked ≡ settings_of before → IsReportOn f asked now r → IsReportOn g before now r
+report_since (report.Verdict v) f g before asked now e kept h = subst (λ (p : Problem). IsReportOn p before now (report.Verdict v)) e h
+report_since (report.Limit counts) f g before asked now e kept h =
+    let spent : SpendsLimit f before now counts = record {
+      limit = h.limit;
+      is_given = sym (ap (λ (s : SolverState). s.max_conflicts) kept) ∙ h.is_given;
+      one = h.one;
+      few = h.few;
+      rose = subst (λ (n : ℕ). RoseBy h.limit n now.counted) (ap (λ (s : SolverState). s.counted) kept) h.rose;
+    } in
+    subst (λ (p : Problem). IsReportOn p before now (report.Limit counts)) e spent
+
+-- the text was read, and a report was written
+pub answers_text : (status : ℕ) (source_before source_now sink_before sink_now : Port) (before asked now : SolverState) → ReadsAll source_before.bytes source_now.bytes asked → settings_of asked ≡ settings_of before
+    → now.problem ≡ asked.problem → WritesReport status asked.problem asked now sink_before sink_now → AnswersText status source_before source_now sink_before sink_now before now
+answers_text status source_before source_now sink_before sink_now before asked now r kept same w =
     record {
       text = r.text;
       consumed = r.consumed;
       ended = r.ended;
       carried = record { commands = r.carried.commands; reading = r.carried.reading; problem = same ∙ r.carried.problem };
-      answered = subst (λ (f : Problem). WritesAnswer answer f t sink_before sink_now) r.carried.problem w;
+      answered = record {
+        report = w.report;
+        is_status = w.is_status;
+        right = report_since w.report asked.problem (problem_of r.carried.commands) before asked now r.carried.problem kept w.right;
+        written = w.written;
+      };
     }
 
-verdict_output : (text out : List ℕ) (commands : List Command) (v : Verdict) → reading_of standard_limits text ≡ record { commands = commands; end = Ended } → IsRight (problem_of commands) [] v → out ≡ text_of_verdict v
-    → IsOutputFor text out
-verdict_output text out commands v e right is_text =
-    let P = λ (r : Reading). IsOutputAt r.commands r.end out in
-    subst P (sym e) (v, right, is_text)
+-- a report was not written whole
+pub stops_report : {X : Type 0} (halt : Halt) (s : Stop) (r : Report) (f : Problem) (before now : SolverState) (result : Result X Halt) (sink_before sink_now : Port) → result ≡ Err halt → s ≡ stop_for halt
+    → IsReportOn f before now r → WritesText (text_of_report r) result sink_before sink_now → StopsReport s f before now sink_before sink_now
+stops_report halt.Write s r f before now result sink_before sink_now e is h w =
+    subst (λ (x : Stop). StopsReport x f before now sink_before sink_now) (sym is) (record { report = r; right = h; written = w.front e; fault = w.fault e })
+stops_report halt.Memory s r f before now result sink_before sink_now e is h w = subst (λ (x : Stop). StopsReport x f before now sink_before sink_now) (sym is) (w.none e)
 
-refusal_output : (text : List ℕ) (why : Refusal) → (reading_of standard_limits text).end ≡ Refused why → IsOutputFor text (text_of_refusal why)
-refusal_output text why e =
-    let P = λ (end : End). IsOutputAt (reading_of standard_limits text).commands end (text_of_refusal why) in
+report_output : (text : List ℕ) (commands : List Command) (before now : SolverState) (r : Report) → reading_of standard_limits text ≡ record { commands = commands; end = Ended } → IsReportOn (problem_of commands) before now r
+    → IsOutputFor before now text (text_of_report r)
+report_output text commands before now r e right =
+    let P = λ (reading : Reading). IsOutputAt before now reading.commands reading.end (text_of_report r) in
+    subst P (sym e) (r, right, refl)
+
+refusal_output : (text : List ℕ) (before now : SolverState) (why : Refusal) → (reading_of standard_limits text).end ≡ Refused why → IsOutputFor before now text (text_of_refusal why)
+refusal_output text before now why e =
+    let P = λ (end : End). IsOutputAt before now (reading_of standard_limits text).commands end (text_of_refusal why) in
     subst P (sym e) refl
 
--- the text was read, and no whole verdict was written
-pub stops_text : (s : Stop) (source_before source_now sink_before sink_now : Port) (solver : SolverState) → ReadsAll source_before.bytes source_now.bytes solver → source_now.faults ≡ source_before.faults
-    → StopsAnswer s solver.problem sink_before sink_now → StopsRight s source_before source_now sink_before sink_now
-stops_text stop.Write source_before source_now sink_before sink_now solver r kept h = (
+-- the text was read, and no whole report was written
+pub stops_text : (s : Stop) (source_before source_now sink_before sink_now : Port) (before asked now : SolverState) → ReadsAll source_before.bytes source_now.bytes asked → settings_of asked ≡ settings_of before
+    → source_now.faults ≡ source_before.faults → StopsReport s asked.problem asked now sink_before sink_now → StopsRight s source_before source_now sink_before sink_now before now
+stops_text stop.Write source_before source_now sink_before sink_now before asked now r kept still h = (
   h.fault,
   λ text e. record {
-    out = text_of_verdict h.verdict;
+    out = text_of_report h.report;
     right =
-        verdict_output text (text_of_verdict h.verdict) r.carried.commands h.verdict (whole_reading source_before.bytes source_now.bytes r.text text solver e r.consumed r.ended r.carried)
-        (subst (λ (f : Problem). IsRight f [] h.verdict) r.carried.problem h.right) refl;
+        report_output text r.carried.commands before now h.report (whole_reading source_before.bytes source_now.bytes r.text text asked e r.consumed r.ended r.carried)
+        (report_since h.report asked.problem (problem_of r.carried.commands) before asked now r.carried.problem kept h.right);
     written = h.written;
   },
 )
-stops_text stop.Memory source_before source_now sink_before sink_now solver r kept h = (kept, h)
-stops_text stop.Refused source_before source_now sink_before sink_now solver r kept h = absurd h
-stops_text stop.Read source_before source_now sink_before sink_now solver r kept h = absurd h
+stops_text stop.Memory source_before source_now sink_before sink_now before asked now r kept still h = (still, h)
+stops_text stop.Refused source_before source_now sink_before sink_now before asked now r kept still h = absurd h
+stops_text stop.Read source_before source_now sink_before sink_now before asked now r kept still h = absurd h
 
 -- the text is refused
-pub stops_refusal : (s : Stop) (source_before source_now sink_before sink_now : Port) (why : Refusal) → ReadsRefusal source_before.bytes source_now.bytes why → source_now.faults ≡ source_before.faults
-    → StopsRefusal s why sink_before sink_now → StopsRight s source_before source_now sink_before sink_now
-stops_refusal stop.Refused source_before source_now sink_before sink_now why r kept h =
+pub stops_refusal : (s : Stop) (source_before source_now sink_before sink_now : Port) (before now : SolverState) (why : Refusal) → ReadsRefusal source_before.bytes source_now.bytes why
+    → source_now.faults ≡ source_before.faults → StopsRefusal s why sink_before sink_now → StopsRight s source_before source_now sink_before sink_now before now
+stops_refusal stop.Refused source_before source_now sink_before sink_now before now why r kept h =
     λ text e. record { why = why; refused = refused_reading source_before.bytes source_now.bytes text why e r; written = h }
-stops_refusal stop.Write source_before source_now sink_before sink_now why r kept h = (
+stops_refusal stop.Write source_before source_now sink_before sink_now before now why r kept h = (
   h.1,
   λ text e. record {
     out = text_of_refusal why;
-    right = refusal_output text why (refused_reading source_before.bytes source_now.bytes text why e r);
+    right = refusal_output text before now why (refused_reading source_before.bytes source_now.bytes text why e r);
     written = h.0;
   },
 )
-stops_refusal stop.Memory source_before source_now sink_before sink_now why r kept h = (kept, h)
-stops_refusal stop.Read source_before source_now sink_before sink_now why r kept h = absurd h
+stops_refusal stop.Memory source_before source_now sink_before sink_now before now why r kept h = (kept, h)
+stops_refusal stop.Read source_before source_now sink_before sink_now before now why r kept h = absurd h
 
 failed_none : (positions : List ℕ) (failed : List Lit) → StandAt [] positions failed → failed ≡ []
 failed_none [] [] h = refl
@@ -117,125 +149,152 @@ no_model f failed h values m =
     let contradiction : makes_true values [] ≡ false = ap (makes_true values) (sym none) ∙ h.contradict values m in
     true≢false contradiction
 
+too_few : (m n : ℕ) → m < n → n ≤ m → ⊥
+too_few m n h k = omega arith
+
+-- a limit that is enough is not spent
+not_spent : (f : Problem) (before now : SolverState) (counts : List ℕ) → SpendsLimit f before now counts → LeavesEnough before.max_conflicts f → ⊥
+not_spent f before now counts h leaves =
+    too_few h.limit (enough (own_count f)) h.few (leaves h.limit h.is_given)
+
 -- what the status says of a formula
 abbrev DecidesProblem : Problem → ℕ → Type 0
 DecidesProblem f status = ((status ≡ 10) × ((values : List Bool) × IsModel f values)) ⊎ ((status ≡ 20) × ((values : List Bool) → IsModel f values → ⊥))
 
-decides : (answer : Answer) (v : Verdict) (f : Problem) (s : SolverState) (status : ℕ) → status ≡ status_of answer → IsVerdictOn f answer s v → DecidesProblem f status
-decides Sat (verdict.Sat values) f s status e h = inl (e, (values, h.right.0))
-decides Unsat (verdict.Unsat failed) f s status e h = inr (e, no_model f failed h.right)
-decides Sat (verdict.Unsat failed) f s status e h = absurd h.told
-decides Unsat (verdict.Sat values) f s status e h = absurd h.told
+decides : (r : Report) (f : Problem) (before now : SolverState) (status : ℕ) → status ≡ status_of r → IsReportOn f before now r → LeavesEnough before.max_conflicts f → DecidesProblem f status
+decides (report.Verdict (verdict.Sat values)) f before now status e h leaves = inl (e, (values, h.right.0))
+decides (report.Verdict (verdict.Unsat failed)) f before now status e h leaves = inr (e, no_model f failed h.right)
+decides (report.Limit counts) f before now status e h leaves = absurd (not_spent f before now counts h leaves)
 
-same_answer : (a b : Answer) (status : ℕ) → status ≡ status_of a → status ≡ status_of b → a ≡ b
-same_answer Sat Sat status e f = refl
-same_answer Unsat Unsat status e f = refl
-same_answer Sat Unsat status e f = absurd (omega arith)
-same_answer Unsat Sat status e f = absurd (omega arith)
+report_status : (r : Report) (status : ℕ) → status ≡ status_of r → IsAmong (10 ∷ 15 ∷ 20 ∷ []) status
+report_status (report.Verdict (verdict.Sat values)) status e = inl e
+report_status (report.Limit counts) status e = inr (inl e)
+report_status (report.Verdict (verdict.Unsat failed)) status e = inr (inr (inl e))
 
-answer_status : (a : Answer) (status : ℕ) → status ≡ status_of a → (status ≡ 10) ⊎ (status ≡ 20)
-answer_status Sat status e = inl e
-answer_status Unsat status e = inr e
+-- no report has a low status
+not_low : (status low : ℕ) → IsAmong (10 ∷ 15 ∷ 20 ∷ []) status → low < 10 → status ≡ low → ⊥
+not_low status low (inl e) h f = omega arith
+not_low status low (inr (inl e)) h f = omega arith
+not_low status low (inr (inr (inl e))) h f = omega arith
+not_low status low (inr (inr (inr e))) h f = e
+
+same_options : (words : List (List ℕ)) (a b : Options) → options_of words ≡ Some a → options_of words ≡ Some b → a ≡ b
+same_options words a b e f = let g : Some a ≡ Some b = sym e ∙ f in cc
+
+not_refused : (words : List (List ℕ)) (options : Options) → options_of words ≡ Some options → options_of words ≡ None → ⊥
+not_refused words options e f = let g : Some options ≡ None = sym e ∙ f in cc
 
 -- a run that answered
-pub ran_answer : (words status : ℕ) (answer : Answer) (source_before source_now sink_before sink_now : Port) (s : SolverState) → words ≡ 0 → status ≡ status_of answer
-    → AnswersText answer source_before source_now sink_before sink_now s → RunsRight words status source_before source_now sink_before sink_now s
-ran_answer words status answer source_before source_now sink_before sink_now s none e h =
-    let high = answer_status answer status e in
-    let reads = λ (text : List ℕ) (told : source_before.bytes ≡ Some text). whole_reading source_before.bytes source_now.bytes h.text text s told h.consumed h.ended h.carried in
+answered_run : (words : List (List ℕ)) (options : Options) (status : ℕ) (source_before source_now sink_before sink_now : Port) (s t : SolverState) → options_of words ≡ Some options
+    → t.max_conflicts ≡ options.max_conflicts → AnswersText status source_before source_now sink_before sink_now (with_options options s) t → RunsRight words status source_before source_now sink_before sink_now s t
+answered_run words options status source_before source_now sink_before sink_now s t taken limit h =
+    let high = report_status h.answered.report status h.answered.is_status in
+    let reads = λ (text : List ℕ) (told : source_before.bytes ≡ Some text). whole_reading source_before.bytes source_now.bytes h.text text t told h.consumed h.ended h.carried in
     record {
       statuses = statuses_high status high;
-      words_refused = (λ one. absurd (not_low status 1 high (omega arith) one), λ some. absurd (omega arith));
+      words_refused = (λ one. absurd (not_low status 1 high (omega arith) one), λ none. absurd (not_refused words options taken none));
       untouched = λ one. absurd (not_low status 1 high (omega arith) one);
-      answered = λ other f. subst (λ (a : Answer). AnswersText a source_before source_now sink_before sink_now s) (same_answer answer other status e f) h;
+      limited = λ other f. limit ∙ ap (λ (o : Options). o.max_conflicts) (same_options words options other taken f);
+      answered = λ other f among. subst (λ (o : Options). AnswersText status source_before source_now sink_before sink_now (with_options o s) t) (same_options words options other taken f) h;
       refused = λ text told two. absurd (not_low status 2 high (omega arith) two);
-      refused_exactly = λ text told zero three four five. (
+      refused_exactly = λ text told are_taken three four five. (
         λ two. absurd (not_low status 2 high (omega arith) two),
         λ ends. absurd (ends (ap (λ (r : Reading). r.end) (reads text told))),
       );
       read_fault = λ three. absurd (not_low status 3 high (omega arith) three);
       read_failed = λ three. absurd (not_low status 3 high (omega arith) three);
       write_fault = λ four. absurd (not_low status 4 high (omega arith) four);
-      write_failed = λ text told four. absurd (not_low status 4 high (omega arith) four);
+      write_failed = λ other f text told four. absurd (not_low status 4 high (omega arith) four);
       out_of_memory = λ five. absurd (not_low status 5 high (omega arith) five);
-      complete = λ text told zero ends no_read no_write. inr (
-          subst (λ (cs : List Command). DecidesProblem (problem_of cs) status) (sym (ap (λ (r : Reading). r.commands) (reads text told)))
-          (decides answer h.answered.verdict (problem_of h.carried.commands) s status e h.answered.is_verdict)
+      complete = λ other f text told ends no_read no_write leaves. inr (
+          let same : formula_of text ≡ problem_of h.carried.commands = ap (λ (r : Reading). problem_of r.commands) (reads text told) in
+          let left : LeavesEnough options.max_conflicts (problem_of h.carried.commands)
+          = subst (λ (p : Problem). LeavesEnough options.max_conflicts p) same (subst (λ (o : Options). LeavesEnough o.max_conflicts (formula_of text)) (same_options words other options f taken) leaves) in
+          subst (λ (p : Problem). DecidesProblem p status) (sym same)
+          (decides h.answered.report (problem_of h.carried.commands) (with_options options s) t status h.answered.is_status h.answered.right left)
           );
     }
   where
-    not_low : (status low : ℕ) → (status ≡ 10) ⊎ (status ≡ 20) → low < 10 → status ≡ low → ⊥
-    not_low status low (inl e) h f = omega arith
-    not_low status low (inr e) h f = omega arith
+    statuses_high : (status : ℕ) → IsAmong (10 ∷ 15 ∷ 20 ∷ []) status → IsAmong (1 ∷ 2 ∷ 3 ∷ 4 ∷ 5 ∷ 10 ∷ 15 ∷ 20 ∷ []) status
+    statuses_high status h = inr (inr (inr (inr (inr h))))
 
-    statuses_high : (status : ℕ) → (status ≡ 10) ⊎ (status ≡ 20) → IsAmong (1 ∷ 2 ∷ 3 ∷ 4 ∷ 5 ∷ 10 ∷ 20 ∷ []) status
-    statuses_high status (inl e) = inr (inr (inr (inr (inr (inl e)))))
-    statuses_high status (inr e) = inr (inr (inr (inr (inr (inr (inl e))))))
-
-low_answer : (a : Answer) (status low : ℕ) → status ≡ low → low < 10 → status ≡ status_of a → ⊥
-low_answer Sat status low e h f = omega arith
-low_answer Unsat status low e h f = omega arith
+pub ran_answer : (words : List (List ℕ)) (options : Options) (status told : ℕ) (source_before source_now sink_before sink_now : Port) (s asked t : SolverState) → options_of words ≡ Some options
+    → asked ≡ with_options options s → t.max_conflicts ≡ asked.max_conflicts → status ≡ told → AnswersText told source_before source_now sink_before sink_now asked t → RunsRight words status source_before source_now sink_before sink_now s t
+ran_answer words options status told source_before source_now sink_before sink_now s asked t taken set kept e h =
+    answered_run words options status source_before source_now sink_before sink_now s t taken (kept ∙ ap (λ (b : SolverState). b.max_conflicts) set)
+    (subst (λ (n : ℕ). AnswersText n source_before source_now sink_before sink_now (with_options options s) t) (sym e) (subst (λ (b : SolverState). AnswersText told source_before source_now sink_before sink_now b t) set h))
 
 -- a run that stopped
-pub ran_stop : (words status : ℕ) (why : Stop) (source_before source_now sink_before sink_now : Port) (s : SolverState) → words ≡ 0 → status ≡ status_of_stop why
-    → StopsRight why source_before source_now sink_before sink_now → RunsRight words status source_before source_now sink_before sink_now s
-ran_stop words status stop.Refused source_before source_now sink_before sink_now s none e h =
+stopped_run : (words : List (List ℕ)) (options : Options) (status : ℕ) (why : Stop) (source_before source_now sink_before sink_now : Port) (s t : SolverState) → options_of words ≡ Some options
+    → t.max_conflicts ≡ options.max_conflicts → status ≡ status_of_stop why → StopsRight why source_before source_now sink_before sink_now (with_options options s) t → RunsRight words status source_before source_now sink_before sink_now s t
+stopped_run words options status stop.Refused source_before source_now sink_before sink_now s t taken limit e h =
     record {
       statuses = inr (inl e);
-      words_refused = (λ one. absurd (omega arith), λ some. absurd (omega arith));
+      words_refused = (λ one. absurd (omega arith), λ none. absurd (not_refused words options taken none));
       untouched = λ one. absurd (omega arith);
-      answered = λ a f. absurd (low_answer a status 2 e (omega arith) f);
+      limited = λ other f. limit ∙ ap (λ (o : Options). o.max_conflicts) (same_options words options other taken f);
+      answered = λ other f among. absurd (not_low status 2 among (omega arith) e);
       refused = λ text told two. h text told;
-      refused_exactly = λ text told zero three four five. (λ two ends. let r = (h text told).refused in absurd cc, λ ends. e);
+      refused_exactly = λ text told are_taken three four five. (λ two ends. let r = (h text told).refused in absurd cc, λ ends. e);
       read_fault = λ three. absurd (omega arith);
       read_failed = λ three. absurd (omega arith);
       write_fault = λ four. absurd (omega arith);
-      write_failed = λ text told four. absurd (omega arith);
+      write_failed = λ other f text told four. absurd (omega arith);
       out_of_memory = λ five. absurd (omega arith);
-      complete = λ text told zero ends no_read no_write. let r = (h text told).refused in absurd cc;
+      complete = λ other f text told ends no_read no_write leaves. let r = (h text told).refused in absurd cc;
     }
-ran_stop words status stop.Read source_before source_now sink_before sink_now s none e h =
+stopped_run words options status stop.Read source_before source_now sink_before sink_now s t taken limit e h =
     record {
       statuses = inr (inr (inl e));
-      words_refused = (λ one. absurd (omega arith), λ some. absurd (omega arith));
+      words_refused = (λ one. absurd (omega arith), λ none. absurd (not_refused words options taken none));
       untouched = λ one. absurd (omega arith);
-      answered = λ a f. absurd (low_answer a status 3 e (omega arith) f);
+      limited = λ other f. limit ∙ ap (λ (o : Options). o.max_conflicts) (same_options words options other taken f);
+      answered = λ other f among. absurd (not_low status 3 among (omega arith) e);
       refused = λ text told two. absurd (omega arith);
-      refused_exactly = λ text told zero three four five. absurd (three e);
+      refused_exactly = λ text told are_taken three four five. absurd (three e);
       read_fault = λ three. h.0;
       read_failed = λ three. h.1;
       write_fault = λ four. absurd (omega arith);
-      write_failed = λ text told four. absurd (omega arith);
+      write_failed = λ other f text told four. absurd (omega arith);
       out_of_memory = λ five. absurd (omega arith);
-      complete = λ text told zero ends no_read no_write. absurd (no_read h.0);
+      complete = λ other f text told ends no_read no_write leaves. absurd (no_read h.0);
     }
-ran_stop words status stop.Write source_before source_now sink_before sink_now s none e h =
+stopped_run words options status stop.Write source_before source_now sink_before sink_now s t taken limit e h =
     record {
       statuses = inr (inr (inr (inl e)));
-      words_refused = (λ one. absurd (omega arith), λ some. absurd (omega arith));
+      words_refused = (λ one. absurd (omega arith), λ none. absurd (not_refused words options taken none));
       untouched = λ one. absurd (omega arith);
-      answered = λ a f. absurd (low_answer a status 4 e (omega arith) f);
+      limited = λ other f. limit ∙ ap (λ (o : Options). o.max_conflicts) (same_options words options other taken f);
+      answered = λ other f among. absurd (not_low status 4 among (omega arith) e);
       refused = λ text told two. absurd (omega arith);
-      refused_exactly = λ text told zero three four five. absurd (four e);
+      refused_exactly = λ text told are_taken three four five. absurd (four e);
       read_fault = λ three. absurd (omega arith);
       read_failed = λ three. absurd (omega arith);
       write_fault = λ four. h.0;
-      write_failed = λ text told four. h.1 text told;
+      write_failed = λ other f text told four.
+          subst (λ (o : Options). CutsOutput text sink_before sink_now (with_options o s) t) (same_options words options other taken f) (h.1 text told);
       out_of_memory = λ five. absurd (omega arith);
-      complete = λ text told zero ends no_read no_write. absurd (no_write h.0);
+      complete = λ other f text told ends no_read no_write leaves. absurd (no_write h.0);
     }
-ran_stop words status stop.Memory source_before source_now sink_before sink_now s none e h =
+stopped_run words options status stop.Memory source_before source_now sink_before sink_now s t taken limit e h =
     record {
       statuses = inr (inr (inr (inr (inl e))));
-      words_refused = (λ one. absurd (omega arith), λ some. absurd (omega arith));
+      words_refused = (λ one. absurd (omega arith), λ none. absurd (not_refused words options taken none));
       untouched = λ one. absurd (omega arith);
-      answered = λ a f. absurd (low_answer a status 5 e (omega arith) f);
+      limited = λ other f. limit ∙ ap (λ (o : Options). o.max_conflicts) (same_options words options other taken f);
+      answered = λ other f among. absurd (not_low status 5 among (omega arith) e);
       refused = λ text told two. absurd (omega arith);
-      refused_exactly = λ text told zero three four five. absurd (five e);
+      refused_exactly = λ text told are_taken three four five. absurd (five e);
       read_fault = λ three. absurd (omega arith);
       read_failed = λ three. absurd (omega arith);
       write_fault = λ four. absurd (omega arith);
-      write_failed = λ text told four. absurd (omega arith);
+      write_failed = λ other f text told four. absurd (omega arith);
       out_of_memory = λ five. h;
-      complete = λ text told zero ends no_read no_write. inl e;
+      complete = λ other f text told ends no_read no_write leaves. inl e;
     }
+
+pub ran_stop : (words : List (List ℕ)) (options : Options) (status : ℕ) (why : Stop) (source_before source_now sink_before sink_now : Port) (s asked t : SolverState) → options_of words ≡ Some options
+    → asked ≡ with_options options s → t.max_conflicts ≡ asked.max_conflicts → status ≡ status_of_stop why → StopsRight why source_before source_now sink_before sink_now asked t → RunsRight words status source_before source_now sink_before sink_now s t
+ran_stop words options status why source_before source_now sink_before sink_now s asked t taken set kept e h =
+    stopped_run words options status why source_before source_now sink_before sink_now s t taken (kept ∙ ap (λ (b : SolverState). b.max_conflicts) set) e
+    (subst (λ (b : SolverState). StopsRight why source_before source_now sink_before sink_now b t) set h)

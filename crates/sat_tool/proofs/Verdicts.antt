@@ -5,8 +5,8 @@ use Rattle.sat_lits.specs.declared.verdict.Verdict.TheVariants as verdict
 use Rattle.sat_api.specs.State.{SolverState}
 use Rattle.sat_api.specs.Answers.{Answers, negated}
 use Rattle.sat_api.specs.declared.solver.Answer.{Answer}
-use Rattle.sat_api.specs.declared.solver.Answer.TheVariants.{Sat, Unsat}
-use Rattle.sat_tool.specs.Runs.{IsVerdictOn}
+use Rattle.sat_api.specs.declared.solver.Answer.TheVariants.{Sat, Unsat, Unknown}
+use Rattle.sat_tool.specs.Reports.{IsVerdictOn}
 
 not_twice : (x : Bool) → not (not x) ≡ x
 not_twice true = refl
@@ -19,11 +19,12 @@ negated_twice (l ∷ lits) =
     ap₂ (λ (x : Bool) (ls : List Lit). let m : Lit = record { var = l.var; negative = x } in m ∷ ls) (not_twice l.negative) (negated_twice lits)
 
 -- the literals of a conflict, turned back, are the failed assumptions
-pub conflict_verdict : (answer : Answer) (s : SolverState) (lits turned : List Lit) → answer ≡ Unsat → Answers s s [] answer → s.conflict ≡ Some lits → turned ≡ map negated lits
-    → IsVerdictOn s.problem answer s (verdict.Unsat turned)
-conflict_verdict Sat s lits turned e told is_conflict is_turned = absurd cc
-conflict_verdict Unsat s lits turned e told is_conflict is_turned =
+pub conflict_verdict : (answer : Answer) (before now : SolverState) (lits turned : List Lit) → answer ≡ Unsat → Answers before now [] answer → now.conflict ≡ Some lits → turned ≡ map negated lits
+    → IsVerdictOn before.problem now (verdict.Unsat turned)
+conflict_verdict Sat before now lits turned e told is_conflict is_turned = absurd cc
+conflict_verdict (Unknown cause) before now lits turned e told is_conflict is_turned = absurd cc
+conflict_verdict Unsat before now lits turned e told is_conflict is_turned =
     let same : lits ≡ map negated told.failed = cc in
     let failed : turned ≡ told.failed = is_turned ∙ ap (map negated) same ∙ negated_twice told.failed in
-    let P = λ (ls : List Lit). IsVerdictOn s.problem Unsat s (verdict.Unsat ls) in
+    let P = λ (ls : List Lit). IsVerdictOn before.problem now (verdict.Unsat ls) in
     subst P (sym failed) (record { right = told.right; told = told.conflict })

@@ -5,14 +5,18 @@ use Rattle.std.specs.List.{list_all}
 use Rattle.std.specs.Io.KnownBytes.{Consumes, IsAtEnd}
 use Rattle.sat_lits.specs.Limits.{standard_limits}
 use Rattle.sat_lits.specs.Formulas.{names_known, lit_count}
-use Rattle.sat_api.specs.State.{SolverState}
+use Rattle.sat_api.specs.State.{SolverState, with_problem}
 use Rattle.dimacs_text.specs.Grammar.{Ended, Refused, reading_of}
 use Rattle.dimacs_text.specs.Reads.{HasRead}
 use Rattle.dimacs_text.specs.Commands.{item_of}
 use Rattle.dimacs_text.specs.declared.command.Command.{Command}
 use Rattle.dimacs_text.specs.declared.refusal.Refusal.{Refusal}
 use Rattle.dimacs_text.specs.declared.state.State.{State}
-use Rattle.sat_tool.specs.Questions.{problem_of}
+use Rattle.sat_tool.specs.Questions.{nothing_yet, problem_of}
+
+-- a solver without its formula and its answer: its limits, and the conflicts that it counted
+abbrev pub settings_of : SolverState → SolverState
+settings_of s = with_problem nothing_yet s
 
 -- the commands fit into the solver's limits, so that it can refuse them for want of memory alone
 pub record HasRoomFor (commands : List Command) (solver : SolverState) : Type 0 where

@@ -3,7 +3,7 @@ ghost use Rattle.sat_lits.specs.Formulas.{names_known, lit_count, with_item};
 ghost use Rattle.sat_lits.specs.declared.formula.Item.TheVariants.{Clause as ClauseItem};
 ghost use Rattle.dimacs_text.specs.declared.command.Command.TheVariants.{Clause};
 ghost use Rattle.sat_tool.specs.Questions.{reach, after_all};
-ghost use Rattle.sat_tool.specs.Progress.{HasRoomFor};
+ghost use Rattle.sat_tool.specs.Progress.{HasRoomFor, settings_of};
 
 use dimacs_text::{Command, Commands};
 use sat_api::{ApiError, SatSolver};
@@ -29,7 +29,7 @@ fn make_room(solver: &mut SatSolver, vars: u32)
       vars = max solver.old.problem.vars vars;
       items = solver.old.problem.items;
     } }
-    ensures limits { solver.new.limits ≡ solver.old.limits }
+    ensures kept { settings_of solver.new ≡ settings_of solver.old }
 {
     let known = solver.n_vars();
     if known < vars {
@@ -42,7 +42,7 @@ fn add_clause(solver: &mut SatSolver, lits: &[Lit]) -> Result<(), NoMemory>
     requires known { names_known solver.old.problem.vars (ClauseItem lits.now) ≡ true }
     requires few { lit_count solver.old.problem.items + length lits.now ≤ solver.old.limits.lits }
     ensures ok { OnOk result (solver.new.problem ≡ with_item (ClauseItem lits.now) solver.old.problem) }
-    ensures limits { solver.new.limits ≡ solver.old.limits }
+    ensures kept { settings_of solver.new ≡ settings_of solver.old }
 {
     match solver.add_clause(lits) {
         Ok(()) => Ok(()),
@@ -57,7 +57,7 @@ fn add_clause(solver: &mut SatSolver, lits: &[Lit]) -> Result<(), NoMemory>
 fn carry_out(solver: &mut SatSolver, command: &Command) -> Result<(), NoMemory>
     requires { HasRoomFor (command.now ∷ []) solver.old }
     ensures ok { OnOk result (solver.new.problem ≡ after_all solver.old.problem (command.now ∷ [])) }
-    ensures limits { solver.new.limits ≡ solver.old.limits }
+    ensures kept { settings_of solver.new ≡ settings_of solver.old }
 {
     match command {
         Command::Clause(lits) => {
@@ -72,7 +72,7 @@ fn carry_out(solver: &mut SatSolver, command: &Command) -> Result<(), NoMemory>
 pub fn carry_out_all(solver: &mut SatSolver, commands: &mut Commands) -> Result<(), NoMemory>
     requires { HasRoomFor commands.old solver.old }
     ensures ok { OnOk result (solver.new.problem ≡ after_all solver.old.problem commands.old) }
-    ensures limits { solver.new.limits ≡ solver.old.limits }
+    ensures kept { settings_of solver.new ≡ settings_of solver.old }
 {
     while let Some(command) = commands.take_first() {
         carry_out(solver, &command)?;

@@ -4,10 +4,12 @@
 mod answer;
 mod carry;
 mod read;
+mod report;
 mod run;
 mod stop;
 #[cfg(test)]
 mod tests;
+mod words;
 mod write;
 
 use run::run;
@@ -63,7 +65,7 @@ fn start<R: Input + Print + Eprint + AllocGlobal + Threads + Sync>(rt: &R, words
         &mut solver,
     );
     if status == FAULTY_WORDS {
-        let _ = eprintln!(rt; "usage: torimbava < FILE");
+        let _ = eprintln!(rt; "usage: torimbava [--maxconfl N] < FILE");
     }
     status
 }

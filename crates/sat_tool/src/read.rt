@@ -1,12 +1,11 @@
 ghost use Rattle.std.specs.Prelude.{◌≡◌, ◌≢◌, ◌<◌, ◌≤◌, ◌++◌, ℕ, List, Some, Err, length, OnOk};
 ghost use Rattle.sat_lits.specs.Limits.{standard_limits};
-ghost use Rattle.sat_api.specs.State.{unanswered};
 ghost use Rattle.sat_ports.specs.Causes.{Rose};
 ghost use Rattle.dimacs_text.specs.Grammar.{Refused, reading_of};
 ghost use Rattle.dimacs_text.specs.declared.refusal.Refusal.{Refusal as Why};
 ghost use Rattle.sat_tool.specs.Errors.{unread_for};
 ghost use Rattle.sat_tool.specs.Questions.{nothing_yet};
-ghost use Rattle.sat_tool.specs.Progress.{HasCarried, HasCarriedAll, ReadsAll, ReadsRefusal};
+ghost use Rattle.sat_tool.specs.Progress.{HasCarried, HasCarriedAll, ReadsAll, ReadsRefusal, settings_of};
 
 use crate::carry::carry_out_all;
 use crate::stop::Unread;
@@ -29,6 +28,7 @@ fn take_piece(
     ensures refused { (why : Why) → result ≡ Err (ReadError.Refused why)
         → (text : List ℕ) → HasCarried text reader.old solver.old
         → (rest : List ℕ) → (reading_of standard_limits ((text ++ piece.now) ++ rest)).end ≡ Refused why }
+    ensures settings { settings_of solver.new ≡ settings_of solver.old }
 {
     let mut commands = Commands::new(alloc);
     match reader.feed(piece, &mut commands) {
@@ -48,6 +48,7 @@ fn take_end(alloc: Global, reader: &mut Reader, solver: &mut SatSolver) -> Resul
     ensures refused { (why : Why) → result ≡ Err (ReadError.Refused why)
         → (text : List ℕ) → HasCarried text reader.old solver.old
         → (reading_of standard_limits text).end ≡ Refused why }
+    ensures settings { settings_of solver.new ≡ settings_of solver.old }
 {
     let mut commands = Commands::new(alloc);
     match reader.finish(&mut commands) {
@@ -76,12 +77,14 @@ pub fn read_formula<S: Source>(
     solver: &mut SatSolver,
 ) -> Result<(), Unread>
     requires room { 0 < length piece.old }
-    requires fresh { solver.old ≡ unanswered nothing_yet standard_limits }
+    requires empty { solver.old.problem ≡ nothing_yet }
+    requires limits { solver.old.limits ≡ standard_limits }
     ensures ok { OnOk result (ReadsAll (S.left source.old) (S.left source.new) solver.new) }
     ensures refused { (why : Why) → result ≡ Err (Unread.Refused why)
         → ReadsRefusal (S.left source.old) (S.left source.new) why }
     ensures fault { result ≡ Err Unread.Fault → Rose (S.faults source.old) (S.faults source.new) }
     ensures kept { result ≢ Err Unread.Fault → S.faults source.new ≡ S.faults source.old }
+    ensures settings { settings_of solver.new ≡ settings_of solver.old }
 {
     let mut reader = Reader::new(alloc, Limits::standard());
     let mut taken: u64 = 0;

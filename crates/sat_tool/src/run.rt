@@ -1,14 +1,17 @@
-ghost use Rattle.std.specs.Prelude.{◌≡◌, IfOk, IfErr, length};
+ghost use Rattle.std.specs.Prelude.{◌≡◌, IfOk, IfErr, map};
 ghost use Rattle.sat_lits.specs.Limits.{standard_limits};
-ghost use Rattle.sat_api.specs.State.{unanswered};
+ghost use Rattle.sat_api.specs.State.{new_solver};
 ghost use Rattle.sat_tool.specs.Questions.{nothing_yet};
 ghost use Rattle.sat_tool.specs.Writing.{port};
-ghost use Rattle.sat_tool.specs.Runs.{AnswersText, StopsRight, RunsRight, status_of};
+ghost use Rattle.sat_tool.specs.Reports.{status_of};
+ghost use Rattle.sat_tool.specs.Runs.{AnswersText, StopsRight, RunsRight};
 
 use crate::answer::{answer, refuse};
 use crate::read::read_formula;
+use crate::report::Report;
 use crate::stop::{Stop, Unread};
-use sat_api::{Answer, SatSolver};
+use crate::words::read_words;
+use sat_api::SatSolver;
 use sat_ports::{Alarm, Sink, Source};
 use std::alloc::Global;
 use std::thread::Threads;
@@ -16,7 +19,7 @@ use std::thread::Threads;
 /// The size of one read, in bytes.
 const PIECE: usize = 65536;
 
-/// Reads the text, answers the question at its end, and writes the answer or the refusal.
+/// Reads the text, answers the question at its end, and writes the report or the refusal.
 fn serve<R: Threads + Sync, S: Source, K: Sink, A: Alarm + Send>(
     rt: &R,
     alloc: Global,
@@ -24,15 +27,18 @@ fn serve<R: Threads + Sync, S: Source, K: Sink, A: Alarm + Send>(
     sink: &mut K,
     alarm: &mut A,
     solver: &mut SatSolver,
-) -> Result<Answer, Stop>
-    requires { solver.old ≡ unanswered nothing_yet standard_limits }
-    ensures ok { IfOk result (λ a. AnswersText a
+) -> Result<Report, Stop>
+    requires empty { solver.old.problem ≡ nothing_yet }
+    requires limits { solver.old.limits ≡ standard_limits }
+    ensures ok { IfOk result (λ report. AnswersText (status_of report)
         (port (S.left source.old) (S.faults source.old)) (port (S.left source.new) (S.faults source.new))
         (port (K.written sink.old) (K.faults sink.old)) (port (K.written sink.new) (K.faults sink.new))
-        solver.new) }
+        solver.old solver.new) }
     ensures err { IfErr result (λ stop. StopsRight stop
         (port (S.left source.old) (S.faults source.old)) (port (S.left source.new) (S.faults source.new))
-        (port (K.written sink.old) (K.faults sink.old)) (port (K.written sink.new) (K.faults sink.new))) }
+        (port (K.written sink.old) (K.faults sink.old)) (port (K.written sink.new) (K.faults sink.new))
+        solver.old solver.new) }
+    ensures limit { solver.new.max_conflicts ≡ solver.old.max_conflicts }
 {
     let Ok(mut piece) = Vec::from_elem(alloc, 0u8, PIECE) else {
         return Err(Stop::Memory);
@@ -45,25 +51,17 @@ fn serve<R: Threads + Sync, S: Source, K: Sink, A: Alarm + Send>(
     }
 }
 
-fn status_of(answer: Answer) -> u8
-    ensures { result ≡ status_of answer }
-{
-    match answer {
-        Answer::Sat => 10,
-        Answer::Unsat => 20,
-    }
-}
-
 /// Does all that the program does, and answers its status.
 ///
-/// The source is read to its end as a plain DIMACS text: clauses of literals, each ended by 0. Its
-/// formula is given to the solver, which is asked once, with no assumptions, and the verdict is
-/// written to the sink.
+/// The words may set a limit on conflicts. The source is read to its end as a plain DIMACS text:
+/// clauses of literals, each ended by 0. Its formula is given to the solver, which is asked once,
+/// with no assumptions, and the verdict is written to the sink, or that the limit was spent.
 ///
-/// The status is 10 where the formula is satisfiable and 20 where it is not. It is 1 exactly where
-/// there is a word, and then nothing is read or written; 2 where the text is not plain, which is
-/// written; 3 where a read failed and 4 where a write failed; 5 for want of memory. Before a status
-/// of 3 or 5 nothing is written, and before 4 a front of what is to be written.
+/// The status is 10 where the formula is satisfiable, 20 where it is not, and 15 where the limit was
+/// spent. It is 1 exactly where the words are not taken, and then nothing is read or written; 2
+/// where the text is not plain, which is written; 3 where a read failed and 4 where a write failed;
+/// 5 for want of memory. Before a status of 3 or 5 nothing is written, and before 4 a front of what
+/// is to be written.
 pub fn run<R: Threads + Sync, S: Source, K: Sink, A: Alarm + Send>(
     rt: &R,
     alloc: Global,
@@ -73,17 +71,18 @@ pub fn run<R: Threads + Sync, S: Source, K: Sink, A: Alarm + Send>(
     alarm: &mut A,
     solver: &mut SatSolver,
 ) -> u8
-    requires { solver.old ≡ unanswered nothing_yet standard_limits }
-    ensures { RunsRight (length words.now) result
+    requires { solver.old ≡ new_solver standard_limits }
+    ensures { RunsRight (map (λ word. word.now) words.now) result
         (port (S.left source.old) (S.faults source.old)) (port (S.left source.new) (S.faults source.new))
         (port (K.written sink.old) (K.faults sink.old)) (port (K.written sink.new) (K.faults sink.new))
-        solver.new }
+        solver.old solver.new }
 {
-    if !words.is_empty() {
+    let Some(options) = read_words(words) else {
         return 1;
-    }
+    };
+    solver.set_max_confl(options.max_conflicts);
     match serve(rt, alloc, source, sink, alarm, solver) {
-        Ok(answer) => status_of(answer),
+        Ok(report) => report.status(),
         Err(stop) => stop.status(),
     }
 }

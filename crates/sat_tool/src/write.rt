@@ -1,13 +1,15 @@
-ghost use Rattle.std.specs.Prelude.{◌≡◌, OnOk, OnErr};
+ghost use Rattle.std.specs.Prelude.{◌≡◌, ◌++◌, OnOk, OnErr};
 ghost use Rattle.std.specs.Io.KnownBytes.{Appends};
 ghost use Rattle.sat_ports.specs.Causes.{HasCause};
 ghost use Rattle.sat_ports.specs.Writes.{AppendsFront};
-ghost use Rattle.dimacs_text.specs.Texts.{text_of_verdict, text_of_refusal};
+ghost use Rattle.dimacs_text.specs.Texts.{text_of_refusal};
 ghost use Rattle.sat_tool.specs.Writing.{port, WritesText};
+ghost use Rattle.sat_tool.specs.Reports.{text_of_report};
 
+use crate::report::Report;
 use crate::stop::Halt;
-use dimacs_text::{Refusal, print_refusal, print_verdict};
-use sat_lits::{List, Verdict};
+use dimacs_text::{Refusal, print_limit, print_refusal, print_verdict};
+use sat_lits::{List, NoMemory};
 use sat_ports::{Failed, Sink};
 use std::alloc::Global;
 
@@ -27,13 +29,22 @@ fn write_all<K: Sink>(sink: &mut K, bytes: &[u8]) -> Result<(), Failed>
     Ok(())
 }
 
-/// Writes the text of a verdict.
-pub fn write_verdict<K: Sink>(alloc: Global, sink: &mut K, verdict: &Verdict) -> Result<(), Halt>
-    ensures { WritesText (text_of_verdict verdict.now) result
+fn print_report(to: &mut List<u8>, report: &Report) -> Result<(), NoMemory>
+    ensures { OnOk result (to.new ≡ to.old ++ text_of_report report.now) }
+{
+    match report {
+        Report::Verdict(verdict) => print_verdict(to, verdict),
+        Report::Limit(counts) => print_limit(to, counts.as_slice()),
+    }
+}
+
+/// Writes the text of a report.
+pub fn write_report<K: Sink>(alloc: Global, sink: &mut K, report: &Report) -> Result<(), Halt>
+    ensures { WritesText (text_of_report report.now) result
         (port (K.written sink.old) (K.faults sink.old)) (port (K.written sink.new) (K.faults sink.new)) }
 {
     let mut text = List::new(alloc);
-    match print_verdict(&mut text, verdict) {
+    match print_report(&mut text, report) {
         Ok(()) => match write_all(sink, text.as_slice()) {
             Ok(()) => Ok(()),
             Err(_) => Err(Halt::Write),

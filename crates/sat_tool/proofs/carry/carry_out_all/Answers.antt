@@ -1,5 +1,6 @@
 use Rattle.std.proofs.Common.{◌≡◌, [], ◌∷◌, List, ap, sym, ◌∙◌, subst}
 use Rattle.sat_lits.specs.Meaning.{Problem}
+use Rattle.sat_api.specs.State.{SolverState}
 use Rattle.dimacs_text.specs.declared.command.Command.{Command}
 use Rattle.sat_tool.specs.Questions.{after_all}
 use Rattle.sat_tool.specs.Progress.{HasRoomFor}
@@ -16,6 +17,6 @@ loop-command-preserved c =
       rest =
           ap (λ (f : Problem). after_all f cs) c.in_ok-carry_out.ensures.ok ∙ after_all-append s.problem (c.in-Some.command ∷ []) cs
           ∙ ap (λ (ds : List Command). after_all s.problem ds) (sym first) ∙ c.loop-command.invariant.rest;
-      room = room_rest c.in-Some.command cs s c.carry_out.new.solver room c.in_ok-carry_out.ensures.ok c.carry_out.ensures.limits;
-      limits = c.carry_out.ensures.limits ∙ c.loop-command.invariant.limits;
+      room = room_rest c.in-Some.command cs s c.carry_out.new.solver room c.in_ok-carry_out.ensures.ok (ap (λ (t : SolverState). t.limits) c.carry_out.ensures.kept);
+      kept = c.carry_out.ensures.kept ∙ c.loop-command.invariant.kept;
     }

@@ -10,9 +10,12 @@ reading-preserved g c =
     let left = g.S.Source.left in
     let faults = g.S.Source.faults in
     let piece = take c.in-Ok.count c.read.new.into in
-    reads_more c.reading.taken c.in-Ok.count c.reading.reader c.take_piece.new.reader (left c.args.source.now) (left c.reading.source) (left c.read.new.self)
-    (faults c.args.source.now) (faults c.reading.source) (faults c.read.new.self) c.reading.solver c.take_piece.new.solver piece
-    c.reading.invariant c.in-Ok.ensures.bytes.0 (length-take-le c.in-Ok.count c.read.new.into (let b = c.in-Ok.ensures.bound in b.0)) c.in-Ok.ensures.cause.kept c.in-Ok-take_piece.ensures.ok
+    record {
+      reads = reads_more c.reading.taken c.in-Ok.count c.reading.reader c.take_piece.new.reader (left c.args.source.now) (left c.reading.source) (left c.read.new.self)
+          (faults c.args.source.now) (faults c.reading.source) (faults c.read.new.self) c.reading.solver c.take_piece.new.solver piece
+          c.reading.invariant.reads c.in-Ok.ensures.bytes.0 (length-take-le c.in-Ok.count c.read.new.into (let b = c.in-Ok.ensures.bound in b.0)) c.in-Ok.ensures.cause.kept c.in-Ok-take_piece.ensures.ok;
+      settings = c.take_piece.ensures.settings ∙ c.reading.invariant.settings;
+    }
 
 pub returns-in-Err-take_piece-clause-refused : goal.returns-in-Err-take_piece-clause-refused
 returns-in-Err-take_piece-clause-refused g c = λ why e.
@@ -20,4 +23,4 @@ returns-in-Err-take_piece-clause-refused g c = λ why e.
     let error : c.in-Err-take_piece.error ≡ read.Refused why = unread_refused c.in-Err-take_piece.error why (sym c.unread_for-in-Err-take_piece.ensures ∙ cc) in
     reads_refusal c.reading.taken c.reading.reader (left c.args.source.now) (left c.reading.source) (left c.read.new.self)
     (g.S.Source.faults c.args.source.now) (g.S.Source.faults c.reading.source) c.reading.solver (take c.in-Ok.count c.read.new.into) why
-    c.reading.invariant c.in-Ok.ensures.bytes.0 (c.in-Err-take_piece.ensures.refused why (ap Err error))
+    c.reading.invariant.reads c.in-Ok.ensures.bytes.0 (c.in-Err-take_piece.ensures.refused why (ap Err error))

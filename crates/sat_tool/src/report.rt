@@ -1,0 +1,64 @@
+ghost use Rattle.std.specs.Prelude.{◌≡◌, [], IfOk, map};
+ghost use Rattle.sat_api.specs.State.{SolverState};
+ghost use Rattle.sat_api.specs.Answers.{Answers, negated};
+ghost use Rattle.sat_tool.specs.Reports.{IsReportOn, status_of};
+
+use sat_api::{Answer, Cause, SatSolver};
+use sat_lits::{List, Lit, NoMemory, Verdict};
+use std::alloc::Global;
+
+/// What is told of an answer.
+#[derive(Debug, Drop)]
+pub enum Report {
+    /// The question is decided.
+    Verdict(Verdict),
+    /// The conflict limit was spent. There is a count for each solver.
+    Limit(List<u64>),
+}
+
+impl Report {
+    /// The status of the program.
+    pub fn status(&self) -> u8
+        ensures { result ≡ status_of self.now }
+    {
+        match self {
+            Report::Verdict(Verdict::Sat(_)) => 10,
+            Report::Verdict(Verdict::Unsat(_)) => 20,
+            Report::Limit(_) => 15,
+        }
+    }
+}
+
+/// The report of this answer, which the solver gave last.
+pub fn report_of(alloc: Global, answer: Answer, solver: &SatSolver) -> Result<Report, NoMemory>
+    requires { (before : SolverState) × Answers before solver.now [] answer }
+    ensures { (before : SolverState)
+        → Answers before solver.now [] answer
+        → IfOk result (IsReportOn before.problem before solver.now) }
+{
+    match answer {
+        Answer::Sat => {
+            let values = solver.get_model().unwrap();
+            Ok(Report::Verdict(Verdict::Sat(List::from_slice(alloc, values)?)))
+        }
+        Answer::Unsat => {
+            let conflict = solver.get_conflict().unwrap();
+            Ok(Report::Verdict(Verdict::Unsat(negated(alloc, conflict)?)))
+        }
+        Answer::Unknown(Cause::Limit { counts }) => Ok(Report::Limit(counts)),
+    }
+}
+
+/// The literals with their signs turned.
+fn negated(alloc: Global, lits: &[Lit]) -> Result<List<Lit>, NoMemory>
+    ensures { IfOk result (λ list. list ≡ map negated lits.now) }
+{
+    let mut turned = List::new(alloc);
+    for lit in lits {
+        turned.push(Lit {
+            var: lit.var,
+            negative: !lit.negative,
+        })?;
+    }
+    Ok(turned)
+}
