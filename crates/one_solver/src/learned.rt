@@ -31,8 +31,7 @@ fn forget(state: &mut PrivateState, id: ClauseId)
 }
 
 /// The ids of the learned clauses of more than two literals, oldest first.
-fn long_learned(alloc: Global, store: &ClauseStore) -> Result<Vec<ClauseId>, NoMemory>
-{
+fn long_learned(alloc: Global, store: &ClauseStore) -> Result<Vec<ClauseId>, NoMemory> {
     let mut ids = Vec::new(alloc);
     let mut at = store.first();
     'walk: while let Some(id) = at {

@@ -113,7 +113,10 @@ fn no_conflict_is_left_at_the_limit(rt: HostRuntime) -> Result<(), Fail> {
     let formula = formula_of(rt.alloc(), 2, &[&[1, 2], &[-1, 2]])?;
     let mut solver = start(&rt, rt.alloc(), &formula)?;
     let answer = solver.step(Some(0), &mut Silent::new());
-    assert!(rt; matches!(answer, StepAnswer::Spent { count: 0 }), "{answer:?}");
+    assert!(rt;
+        matches!(answer, StepAnswer::Spent { count: 0 }),
+        "{answer:?}"
+    );
     Ok(())
 }
 
@@ -121,24 +124,16 @@ fn no_conflict_is_left_at_the_limit(rt: HostRuntime) -> Result<(), Fail> {
 fn each_interval_is_longer_than_the_last(rt: HostRuntime) -> Result<(), Fail> {
     let formula = pigeons(rt.alloc(), 7, 6)?;
     let mut solver = start(&rt, rt.alloc(), &formula)?;
-    let mut made: u64 = 0;
-    for interval in 0..200_u64 {
-        match solver.step(None, &mut Silent::new()) {
-            StepAnswer::IntervalOver => {
-                made = made.wrapping_add(100 + 20 * interval);
-                assert_eq!(rt; solver.conflicts(), made);
-            }
-            StepAnswer::Verdict(Verdict::Unsat(failed)) => {
-                assert_eq!(rt; failed.as_slice(), [].as_slice());
-                assert!(rt; 0 < interval && !solver.okay());
-                let mut tally = Tally::new();
-                solver.pour(&mut tally);
-                assert!(rt; made <= tally.count());
-                assert_eq!(rt; solver.conflicts(), 0);
-                return Ok(());
-            }
-            _ => return Err("neither")?,
-        }
-    }
-    Err("not decided")?
+    let StepAnswer::IntervalOver = solver.step(None, &mut Silent::new()) else {
+        return Err("the first interval did not end")?;
+    };
+    assert_eq!(rt; solver.conflicts(), 100);
+    let StepAnswer::IntervalOver = solver.step(None, &mut Silent::new()) else {
+        return Err("the second interval did not end")?;
+    };
+    assert_eq!(rt; solver.conflicts(), 220);
+    let mut tally = Tally::new();
+    solver.pour(&mut tally);
+    assert_eq!(rt; (tally.count(), solver.conflicts()), (220, 0));
+    Ok(())
 }

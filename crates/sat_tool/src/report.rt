@@ -1,10 +1,10 @@
-ghost use Rattle.std.specs.Prelude.{◌≡◌, [], IfOk, map};
+ghost use Rattle.std.specs.Prelude.{◌≡◌, [], IfOk};
 ghost use Rattle.sat_api.specs.State.{SolverState};
-ghost use Rattle.sat_api.specs.Answers.{Answers, negated};
+ghost use Rattle.sat_api.specs.Answers.{Answers};
 ghost use Rattle.sat_tool.specs.Reports.{IsReportOn, status_of};
 
-use sat_api::{Answer, Cause, SatSolver};
-use sat_lits::{List, Lit, NoMemory, Verdict};
+use sat_api::{Answer, Cause, SatSolver, negated};
+use sat_lits::{List, NoMemory, Verdict};
 use std::alloc::Global;
 
 /// What is told of an answer.
@@ -47,18 +47,4 @@ pub fn report_of(alloc: Global, answer: Answer, solver: &SatSolver) -> Result<Re
         }
         Answer::Unknown(Cause::Limit { counts }) => Ok(Report::Limit(counts)),
     }
-}
-
-/// The literals with their signs turned.
-fn negated(alloc: Global, lits: &[Lit]) -> Result<List<Lit>, NoMemory>
-    ensures { IfOk result (λ list. list ≡ map negated lits.now) }
-{
-    let mut turned = List::new(alloc);
-    for lit in lits {
-        turned.push(Lit {
-            var: lit.var,
-            negative: !lit.negative,
-        })?;
-    }
-    Ok(turned)
 }
