@@ -24,7 +24,7 @@ use Rattle.state_laws.specs.State.{State, outers_from, outer_count, to_own, prob
 use Rattle.state_laws.specs.Moves.{grown}
 use Rattle.state_laws.specs.Kernel.{Kernel, state_of}
 use Rattle.private_state.specs.Taking.{IsTakable}
-use Rattle.one_solver.specs.Basic.{is_clause, IsBasic}
+use Rattle.one_solver.specs.Basic.{is_clause, no_problem, IsBasic}
 use Rattle.one_solver.specs.Taken.{HasTaken}
 
 -- where no variable was taken out, no literal is lost
@@ -109,3 +109,7 @@ took_all f g n more v e h =
 
 pub took_front : (f : Problem) (g n : Kernel) (more : List Item) → outer_count g.definitions ≡ f.vars → f.items ≡ g.items ++ more → HasTaken g n more → Extends (problem_of (state_of n)) f
 took_front f g n more v e h = subst (λ (x : Problem). Extends x f) (sym (took_all f g n more v e h)) (Extends_itself f)
+
+-- what took nothing took a front of every formula
+pub nothing_front : (taken f : Problem) → taken ≡ no_problem → Extends taken f
+nothing_front taken f e = subst (λ (x : Problem). Extends x f) (sym e) (record { vars = omega arith; more = f.items; items = refl })

@@ -82,12 +82,31 @@ fn pigeons(alloc: Global, pigeons: u32, holes: u32) -> Result<Formula, Fail> {
     Ok(formula)
 }
 
+/// One interval of a call that is under way.
+fn step(solver: &mut OneSolver, limit: Option<u64>) -> StepAnswer
+    requires under_way { IsUnderWay solver.old }
+    requires within { IfSome limit (λ most. solver.old.conflicts ≤ most) }
+{
+    solver.step(limit, &mut Silent::new())
+}
+
+/// An interval that makes its full number of conflicts.
+fn whole_interval(rt: &impl Abort, solver: &mut OneSolver)
+    requires { IsUnderWay solver.old }
+    ensures { IsUnderWay solver.new }
+{
+    match solver.step(None, &mut Silent::new()) {
+        StepAnswer::IntervalOver => {}
+        _ => assert!(rt; false, "the interval did not end"),
+    }
+}
+
 #[test]
 fn a_satisfiable_formula_has_its_model(rt: HostRuntime) -> Result<(), Fail> {
     let formula = formula_of(rt.alloc(), 2, &[&[1, 2], &[-1, 2], &[1, -2]])?;
     let mut solver = start(&rt, rt.alloc(), &formula)?;
     assert_eq!(rt; (solver.number(), solver.taken()), (0, 3));
-    let StepAnswer::Verdict(Verdict::Sat(values)) = solver.step(None, &mut Silent::new()) else {
+    let StepAnswer::Verdict(Verdict::Sat(values)) = step(&mut solver, None) else {
         return Err("no model")?;
     };
     assert_eq!(rt; values.as_slice(), [true, true].as_slice());
@@ -99,8 +118,7 @@ fn clauses_of_one_literal_may_refute(rt: HostRuntime) -> Result<(), Fail> {
     let formula = formula_of(rt.alloc(), 3, &[&[1], &[-1, 2], &[3, -2], &[-2, -3]])?;
     let mut solver = start(&rt, rt.alloc(), &formula)?;
     assert!(rt; !solver.okay());
-    let StepAnswer::Verdict(Verdict::Unsat(failed)) = solver.step(Some(0), &mut Silent::new())
-    else {
+    let StepAnswer::Verdict(Verdict::Unsat(failed)) = step(&mut solver, Some(0)) else {
         return Err("not refuted")?;
     };
     assert_eq!(rt; failed.as_slice(), [].as_slice());
@@ -112,11 +130,8 @@ fn clauses_of_one_literal_may_refute(rt: HostRuntime) -> Result<(), Fail> {
 fn no_conflict_is_left_at_the_limit(rt: HostRuntime) -> Result<(), Fail> {
     let formula = formula_of(rt.alloc(), 2, &[&[1, 2], &[-1, 2]])?;
     let mut solver = start(&rt, rt.alloc(), &formula)?;
-    let answer = solver.step(Some(0), &mut Silent::new());
-    assert!(rt;
-        matches!(answer, StepAnswer::Spent { count: 0 }),
-        "{answer:?}"
-    );
+    let answer = step(&mut solver, Some(0));
+    assert!(rt; matches!(answer, StepAnswer::Spent { count: 0 }));
     Ok(())
 }
 
@@ -124,16 +139,13 @@ fn no_conflict_is_left_at_the_limit(rt: HostRuntime) -> Result<(), Fail> {
 fn each_interval_is_longer_than_the_last(rt: HostRuntime) -> Result<(), Fail> {
     let formula = pigeons(rt.alloc(), 7, 6)?;
     let mut solver = start(&rt, rt.alloc(), &formula)?;
-    let StepAnswer::IntervalOver = solver.step(None, &mut Silent::new()) else {
-        return Err("the first interval did not end")?;
-    };
+    whole_interval(&rt, &mut solver);
     assert_eq!(rt; solver.conflicts(), 100);
-    let StepAnswer::IntervalOver = solver.step(None, &mut Silent::new()) else {
-        return Err("the second interval did not end")?;
-    };
+    whole_interval(&rt, &mut solver);
     assert_eq!(rt; solver.conflicts(), 220);
     let mut tally = Tally::new();
     solver.pour(&mut tally);
-    assert_eq!(rt; (tally.count(), solver.conflicts()), (220, 0));
+    assert_eq!(rt; tally.count(), 220);
+    assert_eq!(rt; solver.conflicts(), 0);
     Ok(())
 }
