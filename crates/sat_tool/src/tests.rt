@@ -4,6 +4,7 @@ use crate::write::write_report;
 use sat_api::SatSolver;
 use sat_lits::{List, NoMemory};
 use sat_ports::{BytesSink, BytesSource, PlainSource, Silent, Sink, Source};
+use std::alloc::Global;
 use std::test::Fail;
 use std::thread::Threads;
 
@@ -53,6 +54,152 @@ fn run_on<R: Threads + Sync + AllocGlobal, S: Source, K: Sink>(
 /// A sink with room for all that the tests write, whose listed calls fail.
 fn wide_sink<R: AllocGlobal>(rt: &R, failing: &[u64]) -> Result<BytesSink, NoMemory> {
     BytesSink::with_room(rt.alloc(), 1000, failing)
+}
+
+/// The number of the variable that says that a pigeon sits in a hole.
+fn place(holes: i32, pigeon: i32, hole: i32) -> i32 {
+    pigeon
+        .wrapping_mul(holes)
+        .wrapping_add(hole)
+        .wrapping_add(1)
+}
+
+/// Writes that a pigeon sits in some hole.
+fn write_pigeon(text: &mut String, holes: i32, pigeon: i32) -> Result<(), Fail> {
+    for hole in 0..holes {
+        write!(text, "{} ", place(holes, pigeon, hole))?;
+    }
+    writeln!(text, "0")?;
+    Ok(())
+}
+
+/// Writes that a pigeon sits in no hole with one before it.
+fn write_pairs(text: &mut String, holes: i32, pigeon: i32) -> Result<(), Fail> {
+    for hole in 0..holes {
+        for other in 0..pigeon {
+            let (first, second) = (place(holes, other, hole), place(holes, pigeon, hole));
+            writeln!(text, "-{first} -{second} 0")?;
+        }
+    }
+    Ok(())
+}
+
+/// The text that so many pigeons sit in so many holes, no two in one.
+fn pigeons_in(alloc: Global, pigeons: i32, holes: i32) -> Result<String, Fail> {
+    let mut text = String::new(alloc);
+    for pigeon in 0..pigeons {
+        write_pigeon(&mut text, holes, pigeon)?;
+        write_pairs(&mut text, holes, pigeon)?;
+    }
+    Ok(text)
+}
+
+/// Draws numbers, by a linear congruential generator.
+#[derive(Drop)]
+struct Draws {
+    state: u64,
+}
+
+impl Draws {
+    /// A number from 0 up to and without the bound.
+    fn below(&mut self, bound: i64) -> i64 {
+        self.state = self
+            .state
+            .wrapping_mul(6364136223846793005)
+            .wrapping_add(1442695040888963407);
+        let drawn = i64::try_from(self.state >> 33).unwrap_or(0);
+        drawn.checked_rem(bound).unwrap_or(0)
+    }
+
+    /// The literal of a variable, given by its number from 1, with a sign that is drawn.
+    fn literal(&mut self, number: i64) -> i64 {
+        if self.below(2) == 0 {
+            number
+        } else {
+            number.wrapping_neg()
+        }
+    }
+}
+
+/// How many variables the planted formula has.
+const PLANTED_VARS: i64 = 200;
+
+/// How many clauses the planted formula has.
+const PLANTED_CLAUSES: usize = 800;
+
+/// A literal for each variable in order, to be made true.
+fn plant(alloc: Global, draws: &mut Draws) -> Result<Vec<i64>, Fail> {
+    let mut planted = Vec::new(alloc);
+    for number in 1..=PLANTED_VARS {
+        planted.push(draws.literal(number))?;
+    }
+    Ok(planted)
+}
+
+/// Whether one of the clause's literals is among those that are true.
+fn is_satisfied(clause: &[i64; 3], literals: &[i64]) -> bool {
+    clause.iter().any(|literal| literals.contains(literal))
+}
+
+/// Three different numbers of variables, each of them as likely.
+fn three_numbers(draws: &mut Draws) -> [i64; 3] {
+    let first = draws.below(PLANTED_VARS);
+    let step = draws.below(PLANTED_VARS - 1).wrapping_add(1);
+    let second = first.wrapping_add(step).wrapping_rem(PLANTED_VARS);
+    let mut third = draws.below(PLANTED_VARS - 2);
+    for taken in [first.min(second), first.max(second)] {
+        if third >= taken {
+            third = third.wrapping_add(1);
+        }
+    }
+    [first, second, third].map(|number| number.wrapping_add(1))
+}
+
+/// A clause of three different variables that one planted literal satisfies.
+fn planted_clause(draws: &mut Draws, planted: &[i64]) -> [i64; 3] {
+    let [first, second, third] = three_numbers(draws);
+    let first = draws.literal(first);
+    let rest = (draws.literal(second), draws.literal(third));
+    let clause = [first, rest.0, rest.1];
+    if is_satisfied(&clause, planted) {
+        clause
+    } else {
+        [first.wrapping_neg(), rest.0, rest.1]
+    }
+}
+
+/// Clauses that the planted literals satisfy.
+fn planted_clauses(alloc: Global, draws: &mut Draws) -> Result<Vec<[i64; 3]>, Fail> {
+    let planted = plant(alloc, draws)?;
+    let mut clauses = Vec::new(alloc);
+    for _ in 0..PLANTED_CLAUSES {
+        clauses.push(planted_clause(draws, &planted))?;
+    }
+    Ok(clauses)
+}
+
+/// The text of these clauses.
+fn text_of(alloc: Global, clauses: &[[i64; 3]]) -> Result<String, Fail> {
+    let mut text = String::new(alloc);
+    for [first, second, third] in clauses {
+        writeln!(text, "{first} {second} {third} 0")?;
+    }
+    Ok(text)
+}
+
+/// The literals that a model's output names, in order.
+fn printed_literals(alloc: Global, output: &[u8]) -> Result<Vec<i64>, Fail> {
+    let line = str::from_utf8(output)?
+        .strip_prefix("s SATISFIABLE\nv ")
+        .ok_or("no model")?
+        .strip_suffix(" 0\n")
+        .ok_or("no end")?;
+    let mut literals = Vec::new(alloc);
+    for word in line.split(' ') {
+        let literal: i64 = word.parse()?;
+        literals.push(literal)?;
+    }
+    Ok(literals)
 }
 
 #[test]
@@ -161,6 +308,45 @@ fn a_limit_of_zero_leaves_the_verdict_or_is_spent(rt: HostRuntime) -> Result<(),
     };
     assert!(rt; status == 15 || status == 20, "{status}");
     assert_eq!(rt; sink.bytes(), output);
+    Ok(())
+}
+
+#[test]
+fn pigeons_do_not_fit(rt: HostRuntime) -> Result<(), Fail> {
+    let spent = b"s INDETERMINATE\nc limit 10\n".as_slice();
+    let rows: [(i32, i32, &[&str], &[u8], u8); 2] = [
+        (5, 4, &[], NO_MODEL_OUTPUT, 20),
+        (7, 6, &["--maxconfl", "10"], spent, 15),
+    ];
+    for (pigeons, holes, words, output, status) in rows {
+        let text = pigeons_in(rt.alloc(), pigeons, holes)?;
+        let mut source = PlainSource::new(text.as_bytes());
+        let mut sink = wide_sink(&rt, &[])?;
+        assert_eq!(rt;
+            run_with(&rt, words, &mut source, &mut sink),
+            status,
+            "of {pigeons}"
+        );
+        assert_eq!(rt; sink.bytes(), output, "of {pigeons}");
+    }
+    Ok(())
+}
+
+#[test]
+fn a_planted_formula_has_a_model(rt: HostRuntime) -> Result<(), Fail> {
+    let clauses = planted_clauses(rt.alloc(), &mut Draws { state: 3 })?;
+    let text = text_of(rt.alloc(), &clauses)?;
+    let mut sink = wide_sink(&rt, &[])?;
+    assert_eq!(rt;
+        run_on(&rt, &mut PlainSource::new(text.as_bytes()), &mut sink),
+        10
+    );
+    let literals = printed_literals(rt.alloc(), sink.bytes())?;
+    let numbers = literals.iter().map(|literal| literal.wrapping_abs());
+    assert!(rt; numbers.eq(1..=PLANTED_VARS), "{literals:?}");
+    for clause in clauses.iter() {
+        assert!(rt; is_satisfied(clause, &literals), "{clause:?}");
+    }
     Ok(())
 }
 
