@@ -1,8 +1,6 @@
-ghost use Rattle.std.specs.Prelude.{◌≡◌, ◌≤◌, ◌^◌, IfOk, IfSome, IsTrue};
+ghost use Rattle.std.specs.Prelude.{◌≡◌, IfOk};
 ghost use Rattle.std.specs.List.{list_all};
-ghost use Rattle.sat_lits.specs.Formulas.{Extends};
 ghost use Rattle.one_solver.specs.Basic.{is_clause};
-ghost use Rattle.one_solver.specs.Parts.{problem_in};
 ghost use Rattle.one_solver.specs.Steps.{IsUnderWay};
 
 use crate::{OneSolver, StepAnswer};
@@ -82,12 +80,19 @@ fn pigeons(alloc: Global, pigeons: u32, holes: u32) -> Result<Formula, Fail> {
     Ok(formula)
 }
 
-/// One interval of a call that is under way.
-fn step(solver: &mut OneSolver, limit: Option<u64>) -> StepAnswer
-    requires under_way { IsUnderWay solver.old }
-    requires within { IfSome limit (λ most. solver.old.conflicts ≤ most) }
+/// One interval of a call that is under way, without a limit.
+fn step(solver: &mut OneSolver) -> StepAnswer
+    requires { IsUnderWay solver.old }
 {
-    solver.step(limit, &mut Silent::new())
+    solver.step(None, &mut Silent::new())
+}
+
+/// One interval of a call that made no conflict and may make none.
+fn spent_step(solver: &mut OneSolver) -> StepAnswer
+    requires under_way { IsUnderWay solver.old }
+    requires none { solver.old.conflicts ≡ 0 }
+{
+    solver.step(Some(0), &mut Silent::new())
 }
 
 /// An interval that makes its full number of conflicts.
@@ -106,7 +111,7 @@ fn a_satisfiable_formula_has_its_model(rt: HostRuntime) -> Result<(), Fail> {
     let formula = formula_of(rt.alloc(), 2, &[&[1, 2], &[-1, 2], &[1, -2]])?;
     let mut solver = start(&rt, rt.alloc(), &formula)?;
     assert_eq!(rt; (solver.number(), solver.taken()), (0, 3));
-    let StepAnswer::Verdict(Verdict::Sat(values)) = step(&mut solver, None) else {
+    let StepAnswer::Verdict(Verdict::Sat(values)) = step(&mut solver) else {
         return Err("no model")?;
     };
     assert_eq!(rt; values.as_slice(), [true, true].as_slice());
@@ -114,23 +119,10 @@ fn a_satisfiable_formula_has_its_model(rt: HostRuntime) -> Result<(), Fail> {
 }
 
 #[test]
-fn clauses_of_one_literal_may_refute(rt: HostRuntime) -> Result<(), Fail> {
-    let formula = formula_of(rt.alloc(), 3, &[&[1], &[-1, 2], &[3, -2], &[-2, -3]])?;
-    let mut solver = start(&rt, rt.alloc(), &formula)?;
-    assert!(rt; !solver.okay());
-    let StepAnswer::Verdict(Verdict::Unsat(failed)) = step(&mut solver, Some(0)) else {
-        return Err("not refuted")?;
-    };
-    assert_eq!(rt; failed.as_slice(), [].as_slice());
-    assert_eq!(rt; solver.conflicts(), 0);
-    Ok(())
-}
-
-#[test]
 fn no_conflict_is_left_at_the_limit(rt: HostRuntime) -> Result<(), Fail> {
     let formula = formula_of(rt.alloc(), 2, &[&[1, 2], &[-1, 2]])?;
     let mut solver = start(&rt, rt.alloc(), &formula)?;
-    let answer = step(&mut solver, Some(0));
+    let answer = spent_step(&mut solver);
     assert!(rt; matches!(answer, StepAnswer::Spent { count: 0 }));
     Ok(())
 }

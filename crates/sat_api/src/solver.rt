@@ -7,8 +7,8 @@ ghost use Rattle.sat_lits.specs.Formulas.{with_vars, with_item, first_unknown, n
 ghost use Rattle.sat_api.specs.State.{new_solver, unanswered, with_problem, Keeps};
 ghost use Rattle.sat_api.specs.Answers.{Answers, Decides, negated};
 
-use crate::error::ApiError;
 use crate::decide::{Found, decide};
+use crate::error::ApiError;
 use analyze::Tally;
 use one_solver::OneSolver;
 use sat_lits::{Formula, Limits, List, Lit, NoMemory, Verdict};
