@@ -1,0 +1,81 @@
+//! Calls of a solver, each written with what it answers.
+
+use crate::error::TourError;
+use sat_api::{Answer, Cause, SatSolver};
+use sat_lits::{Lit, Var};
+use sat_ports::Silent;
+use std::thread::Threads;
+
+/// Adds variables.
+pub fn new_vars<R: Print>(rt: &R, solver: &mut SatSolver, by: u32) -> Result<(), TourError> {
+    let answer = solver.new_vars(by);
+    println!(rt; "new_vars {by}: {answer:?}")?;
+    Ok(())
+}
+
+/// Adds the clause of these numbers.
+pub fn add_clause<R: Print + AllocGlobal>(
+    rt: &R,
+    solver: &mut SatSolver,
+    numbers: &[i32],
+) -> Result<(), TourError> {
+    let lits: Vec<Lit> = numbers
+        .iter()
+        .map(|number| lit(*number))
+        .collect(rt.alloc())?;
+    let answer = solver.add_clause(&lits);
+    println!(rt; "add_clause {numbers:?}: {answer:?}")?;
+    Ok(())
+}
+
+/// Adds a clause that has the first variable so often.
+pub fn add_long_clause<R: Print + AllocGlobal>(
+    rt: &R,
+    solver: &mut SatSolver,
+    count: usize,
+) -> Result<(), TourError> {
+    let lits = vec![in rt.alloc(); lit(1); count]?;
+    let answer = solver.add_clause(&lits);
+    println!(rt; "add_clause of {count} literals: {answer:?}")?;
+    Ok(())
+}
+
+/// The literal of a number that is not 0.
+pub fn lit(number: i32) -> Lit {
+    Lit {
+        var: Var(number.unsigned_abs().saturating_sub(1)),
+        negative: number < 0,
+    }
+}
+
+/// Sets the conflict limit.
+pub fn set_max_confl<R: Print>(
+    rt: &R,
+    solver: &mut SatSolver,
+    limit: Option<u64>,
+) -> Result<(), TourError> {
+    solver.set_max_confl(limit);
+    println!(rt; "set_max_confl {limit:?}")?;
+    Ok(())
+}
+
+/// Asks under no assumption.
+pub fn ask<R: Print + Threads + Sync>(rt: &R, solver: &mut SatSolver) -> Result<(), TourError> {
+    match solver.solve(rt, &[], &mut Silent::new())? {
+        Answer::Sat => println!(rt; "solve: Sat")?,
+        Answer::Unsat => println!(rt; "solve: Unsat")?,
+        Answer::Unknown(Cause::Limit { counts }) => {
+            let counts = counts.as_slice();
+            println!(rt; "solve: Unknown, at {counts:?} conflicts")?;
+        }
+    }
+    Ok(())
+}
+
+/// Reads what the latest answer left.
+pub fn read<R: Print>(rt: &R, solver: &SatSolver) -> Result<(), TourError> {
+    let (model, conflict) = (solver.get_model(), solver.get_conflict());
+    println!(rt; "get_model: {model:?}")?;
+    println!(rt; "get_conflict: {conflict:?}")?;
+    Ok(())
+}

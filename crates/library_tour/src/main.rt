@@ -1,0 +1,232 @@
+//! A tour of the library: what a program that uses it writes, and what each call answers.
+//!
+//! A clause is written by numbers, as in a DIMACS text: 1 is the first variable, and -1 its
+//! negation. The library counts variables from 0. Each topic has a solver of its own.
+#![tactic(auto)]
+
+mod calls;
+mod error;
+mod pigeons;
+
+use calls::{add_clause, add_long_clause, ask, lit, new_vars, read, set_max_confl};
+use error::TourError;
+use pigeons::add_pigeons;
+use sat_api::{Answer, SatSolver};
+use sat_ports::Silent;
+use std::thread::Threads;
+
+fn main(rt: HostRuntime) -> Result<(), TourError> {
+    for topic in TOPICS {
+        show(&rt, topic)?;
+    }
+    Ok(())
+}
+
+/// What the tour shows.
+#[derive(Clone, Copy)]
+enum Topic {
+    FirstQuestion,
+    OneModel,
+    MoreAfterAnswers,
+    TheEmptyClause,
+    RefusedVariables,
+    RefusedClauses,
+    TooManyLiterals,
+    SpentLimit,
+    EqualCounts,
+    ManyConflicts,
+}
+
+/// The topics in order.
+const TOPICS: [Topic; 10] = [
+    Topic::FirstQuestion,
+    Topic::OneModel,
+    Topic::MoreAfterAnswers,
+    Topic::TheEmptyClause,
+    Topic::RefusedVariables,
+    Topic::RefusedClauses,
+    Topic::TooManyLiterals,
+    Topic::SpentLimit,
+    Topic::EqualCounts,
+    Topic::ManyConflicts,
+];
+
+/// Shows a topic on a new solver.
+fn show<R: Print + AllocGlobal + Threads + Sync>(rt: &R, topic: Topic) -> Result<(), TourError> {
+    let mut solver = SatSolver::new(rt.alloc());
+    show_on(rt, topic, &mut solver)
+}
+
+/// Shows a topic on a solver that took nothing.
+fn show_on<R: Print + AllocGlobal + Threads + Sync>(
+    rt: &R,
+    topic: Topic,
+    solver: &mut SatSolver,
+) -> Result<(), TourError> {
+    match topic {
+        Topic::FirstQuestion => first_question(rt, solver),
+        Topic::OneModel => one_model(rt, solver),
+        Topic::MoreAfterAnswers => more_after_answers(rt, solver),
+        Topic::TheEmptyClause => the_empty_clause(rt, solver),
+        Topic::RefusedVariables => refused_variables(rt, solver),
+        Topic::RefusedClauses => refused_clauses(rt, solver),
+        Topic::TooManyLiterals => too_many_literals(rt, solver),
+        Topic::SpentLimit => spent_limit(rt, solver),
+        Topic::EqualCounts => equal_counts(rt, solver),
+        Topic::ManyConflicts => many_conflicts(rt, solver),
+    }
+}
+
+/// The library in a dozen lines.
+fn first_question<R: Print + Threads + Sync>(
+    rt: &R,
+    solver: &mut SatSolver,
+) -> Result<(), TourError> {
+    println!(rt; "# A first question")?;
+    solver.new_vars(2)?;
+    solver.add_clause(&[lit(1), lit(2)])?;
+    solver.add_clause(&[lit(-1), lit(2)])?;
+    match solver.solve(rt, &[], &mut Silent::new())? {
+        Answer::Sat => println!(rt; "some assignment satisfies the clauses")?,
+        Answer::Unsat => println!(rt; "no assignment satisfies them")?,
+        Answer::Unknown(_) => println!(rt; "a limit was spent")?,
+    }
+    let second = solver.get_model().and_then(|values| values.get(1).copied());
+    println!(rt; "the second variable: {second:?}")?;
+    Ok(())
+}
+
+/// Clauses that one assignment satisfies. A refused call between a question and its answer leaves
+/// the answer.
+fn one_model<R: Print + AllocGlobal + Threads + Sync>(
+    rt: &R,
+    solver: &mut SatSolver,
+) -> Result<(), TourError> {
+    println!(rt; "# One model")?;
+    new_vars(rt, solver, 2)?;
+    add_clause(rt, solver, &[1, 2])?;
+    add_clause(rt, solver, &[-1, 2])?;
+    add_clause(rt, solver, &[1, -2])?;
+    ask(rt, solver)?;
+    add_clause(rt, solver, &[3])?;
+    read(rt, solver)
+}
+
+/// A solver is asked twice, takes more, and is asked again, until nothing satisfies it. More
+/// variables do not help it then.
+fn more_after_answers<R: Print + AllocGlobal + Threads + Sync>(
+    rt: &R,
+    solver: &mut SatSolver,
+) -> Result<(), TourError> {
+    println!(rt; "# More after answers")?;
+    new_vars(rt, solver, 1)?;
+    add_clause(rt, solver, &[1])?;
+    ask(rt, solver)?;
+    ask(rt, solver)?;
+    read(rt, solver)?;
+    new_vars(rt, solver, 1)?;
+    read(rt, solver)?;
+    add_clause(rt, solver, &[-1, -2])?;
+    ask(rt, solver)?;
+    read(rt, solver)?;
+    add_clause(rt, solver, &[-1, 2])?;
+    ask(rt, solver)?;
+    read(rt, solver)?;
+    new_vars(rt, solver, 1)?;
+    read(rt, solver)?;
+    ask(rt, solver)?;
+    read(rt, solver)
+}
+
+/// Nothing satisfies the empty clause. Without clauses everything is satisfied.
+fn the_empty_clause<R: Print + AllocGlobal + Threads + Sync>(
+    rt: &R,
+    solver: &mut SatSolver,
+) -> Result<(), TourError> {
+    println!(rt; "# The empty clause")?;
+    ask(rt, solver)?;
+    read(rt, solver)?;
+    add_clause(rt, solver, &[])?;
+    ask(rt, solver)?;
+    read(rt, solver)
+}
+
+/// There are at most 16777215 variables.
+fn refused_variables<R: Print>(rt: &R, solver: &mut SatSolver) -> Result<(), TourError> {
+    println!(rt; "# Refused variables")?;
+    new_vars(rt, solver, 16_777_215)?;
+    new_vars(rt, solver, 1)?;
+    println!(rt; "n_vars: {}", solver.n_vars())?;
+    Ok(())
+}
+
+/// A clause is over variables that are there. One that is refused is not among the clauses.
+fn refused_clauses<R: Print + AllocGlobal + Threads + Sync>(
+    rt: &R,
+    solver: &mut SatSolver,
+) -> Result<(), TourError> {
+    println!(rt; "# Refused clauses")?;
+    new_vars(rt, solver, 1)?;
+    add_clause(rt, solver, &[1])?;
+    add_clause(rt, solver, &[-1, -3, 2])?;
+    ask(rt, solver)?;
+    read(rt, solver)
+}
+
+/// There are at most 33554432 literals over all clauses. What was there before stays.
+fn too_many_literals<R: Print + AllocGlobal + Threads + Sync>(
+    rt: &R,
+    solver: &mut SatSolver,
+) -> Result<(), TourError> {
+    println!(rt; "# Too many literals")?;
+    new_vars(rt, solver, 1)?;
+    add_clause(rt, solver, &[-1])?;
+    add_long_clause(rt, solver, 33_554_432)?;
+    ask(rt, solver)?;
+    read(rt, solver)
+}
+
+/// With a conflict limit of 0 a question without units stays open. Without a limit it is decided.
+fn spent_limit<R: Print + AllocGlobal + Threads + Sync>(
+    rt: &R,
+    solver: &mut SatSolver,
+) -> Result<(), TourError> {
+    println!(rt; "# A conflict limit, spent and lifted")?;
+    add_pigeons(rt, solver, 6, 5)?;
+    set_max_confl(rt, solver, Some(0))?;
+    ask(rt, solver)?;
+    read(rt, solver)?;
+    set_max_confl(rt, solver, None)?;
+    ask(rt, solver)?;
+    read(rt, solver)?;
+    set_max_confl(rt, solver, Some(0))?;
+    read(rt, solver)
+}
+
+/// As many pigeons as holes. Of the models that there are, any may come.
+fn equal_counts<R: Print + AllocGlobal + Threads + Sync>(
+    rt: &R,
+    solver: &mut SatSolver,
+) -> Result<(), TourError> {
+    println!(rt; "# As many holes as pigeons")?;
+    add_pigeons(rt, solver, 6, 6)?;
+    ask(rt, solver)?;
+    let true_count = solver
+        .get_model()
+        .map(|values| values.iter().filter(|value| **value).count());
+    println!(rt; "true values in the model: {true_count:?}")?;
+    Ok(())
+}
+
+/// A question that takes more conflicts than the first interval of a search has.
+fn many_conflicts<R: Print + AllocGlobal + Threads + Sync>(
+    rt: &R,
+    solver: &mut SatSolver,
+) -> Result<(), TourError> {
+    println!(rt; "# Many conflicts")?;
+    add_pigeons(rt, solver, 8, 7)?;
+    ask(rt, solver)?;
+    let is_long = solver.conflicts() > 100;
+    println!(rt; "conflicts above 100: {is_long}")?;
+    Ok(())
+}
