@@ -33,6 +33,7 @@ impl Work {
         ensures learned { LearnsRight state.old state.new self.new.conflicts result }
         ensures few { self.new.conflicts < 3 ^ length (in_use state.old.maps) }
         ensures tallied { tally.new ≡ saturated tally.old self.new.conflicts }
+        ensures stop { S.kept stop.old stop.new }
     {
         'moves: loop {
             match self.propagate(state) {

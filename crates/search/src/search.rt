@@ -72,6 +72,7 @@ impl Search {
         ensures learned { LearnsRight state.old state.new self.new result }
         ensures few { self.new < 3 ^ length (in_use state.old.maps) }
         ensures tallied { tally.new ≡ saturated tally.old self.new }
+        ensures stop { S.kept stop.old stop.new }
     {
         // That the count has 64 bits is known from here on.
         let _count = tally.count();
