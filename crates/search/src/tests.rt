@@ -71,7 +71,6 @@ fn are_below(lits: &[Lit], vars: u32) -> bool
 fn can_take(state: &PrivateState, lits: &[Lit]) -> bool
     ensures { IsTrue result → Takable (state_of state.now) lits.now }
 {
-    state.stands();
     let vars = state.maps().outer_count();
     if !state.stack().entries().is_empty() {
         return false;
