@@ -125,6 +125,7 @@ impl OneSolver {
         requires under_way { IsUnderWay self.old }
         requires within { IfSome limit (λ most. self.old.conflicts ≤ most) }
         ensures right { StepsRight self.old self.new limit (S.raises stop.old) (S.raises stop.new) result }
+        ensures stop { S.kept stop.old stop.new }
         ensures refuted { IsRefuted self.old result }
         ensures problem { problem_in self.new ≡ problem_in self.old }
         ensures number { self.new.number ≡ self.old.number }

@@ -76,7 +76,8 @@ impl PrivateState {
 
     /// Whether the state was not refuted.
     pub fn okay(&self) -> bool
-        ensures { result ≡ self.now.okay }
+        ensures value { result ≡ self.now.okay }
+        ensures standing { Standing self.now }
     {
         self.okay
     }
@@ -122,14 +123,16 @@ impl PrivateState {
 
     /// The numbers of the variables.
     pub fn maps(&self) -> &VarMaps
-        ensures { result.now ≡ self.now.maps }
+        ensures value { result.now ≡ self.now.maps }
+        ensures standing { Standing self.now }
     {
         &self.maps
     }
 
     /// The clauses that are held, in inner literals.
     pub fn clauses(&self) -> &ClauseStore
-        ensures { result.now ≡ self.now.store }
+        ensures value { result.now ≡ self.now.store }
+        ensures standing { Standing self.now }
     {
         &self.store
     }
@@ -139,13 +142,6 @@ impl PrivateState {
         ensures { result.now ≡ self.now.stack }
     {
         self.removed.stack()
-    }
-
-    /// Hands to callers' proofs that the state stands. It does nothing when it runs.
-    pub fn stands(&self)
-        ensures { Standing self.now }
-    {
-        let _ = &self.okay;
     }
 
     /// Adds outer variables, active, until there are `vars`; with fewer it changes nothing. The

@@ -65,7 +65,6 @@ impl Work {
         self.trail = Trail::new(alloc);
         self.trail.reserve(variables)?;
         self.order.prepare(numbers.as_slice(), phase)?;
-        state.stands();
         self.watches.prepare(state.clauses(), variables)?;
         self.assumptions = List::from_slice(alloc, assumptions)?;
         self.positions.clear();

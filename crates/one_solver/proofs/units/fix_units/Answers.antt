@@ -15,14 +15,14 @@ use Rattle.one_solver.proofs.units.fix_units.Goals as goal
 use Rattle.one_solver.proofs.units.fix_units.Goals.{After-own_lit, In-Longer}
 
 pub refute-requires : goal.refute-requires
-refute-requires c = empty_contradicted c.units.state (ap (λ (s : Store). list_any (λ h. is_empty h.lits) s.held) (sym c.clauses.ensures) ∙ c.in-Empty.ensures)
+refute-requires c = empty_contradicted c.units.state (ap (λ (s : Store). list_any (λ h. is_empty h.lits) s.held) (sym c.clauses.ensures.value) ∙ c.in-Empty.ensures)
 
 -- the literal's clause is held
 held : (c : After-own_lit) → list_any (λ h. is_unit (same_in c.in-Single.lit) h.lits) c.units.state.store.held ≡ true
-held c = ap (λ (s : Store). list_any (λ h. is_unit (same_in c.in-Single.lit) h.lits) s.held) (sym c.clauses.ensures) ∙ c.in-Single.ensures
+held c = ap (λ (s : Store). list_any (λ h. is_unit (same_in c.in-Single.lit) h.lits) s.held) (sym c.clauses.ensures.value) ∙ c.in-Single.ensures
 
 own : (c : After-own_lit) → c.own_lit.result ≡ own_of c.units.state.maps c.in-Single.lit
-own c = c.own_lit.ensures ∙ ap (λ (m : Maps). own_of m c.in-Single.lit) c.maps.ensures
+own c = c.own_lit.ensures ∙ ap (λ (m : Maps). own_of m c.in-Single.lit) c.maps.ensures.value
 
 active : (c : After-own_lit) → is_active (state_of c.units.state) c.own_lit.result.var.0 ≡ true
 active c = ap (λ (o : OwnLit). is_active (state_of c.units.state) o.var.0) (own c) ∙ unit_active c.units.state c.in-Single.lit c.stands.ensures (held c)
@@ -40,7 +40,7 @@ pub units-preserved : goal.units-preserved
 units-preserved c = fixing_step c.args.state.now c.units.state c.fix.new.self c.own_lit.result c.stands.ensures (active ((goal.at.units-preserved c).After-own_lit)) c.in_ok-fix-in-Single.ensures.ok c.units.invariant
 
 left : (c : In-Longer) → HasNoUnits c.units.state
-left c = has_no_units c.units.state (ap (λ (s : Store). list_all (λ h. not (is_short h.lits)) s.held) (sym c.clauses.ensures) ∙ c.in-Longer.ensures)
+left c = has_no_units c.units.state (ap (λ (s : Store). list_all (λ h. not (is_short h.lits)) s.held) (sym c.clauses.ensures.value) ∙ c.in-Longer.ensures)
 
 pub returns-in-Longer-clause-fixed : goal.returns-in-Longer-clause-fixed
 returns-in-Longer-clause-fixed c = λ o. fixing_end c.args.state.now c.units.state c.units.invariant (left c)

@@ -9,4 +9,4 @@ use Rattle.one_solver.proofs.solver.OneSolver.stands.Goals as goal
 pub returns-clause-active : goal.returns-clause-active
 returns-clause-active c =
     subst (λ (s : Parts). length (in_use s.kernel.maps) ≤ own_count (problem_in s)) c.self.view_is
-    (active_few c.self.inside.state (subst (λ (m : Maps). Matched m) c.maps.ensures c.inner_len-len.ensures.matched) c.stands.ensures c.self.invariant)
+    (active_few c.self.inside.state (subst (λ (m : Maps). Matched m) c.maps.ensures.value c.inner_len-len.ensures.matched) c.stands.ensures c.self.invariant)

@@ -20,7 +20,7 @@ returns-then-not-okay-clause-right g c =
     subst (λ (ls : List Lit). IsFailed (problem_in c.args.self.now) [] ls) (sym c.new.ensures)
     (none_fails (problem_in c.args.self.now)
     (no_model c.args.self.now.kernel c.stands.ensures.standing c.stands.ensures.basic
-    (ap (λ (s : Parts). s.kernel.okay) (sym c.self.view_is) ∙ (sym c.okay.ensures ∙ c.if-not-okay.true))))
+    (ap (λ (s : Parts). s.kernel.okay) (sym c.self.view_is) ∙ (sym c.okay.ensures.value ∙ c.if-not-okay.true))))
 
 pub unsat-requires : goal.unsat-requires
 unsat-requires g c = failed_contradicted c.run_interval-answer.new.state c.in-Failed.field-0 c.in-Failed.ensures.right
