@@ -23,7 +23,7 @@ const LIMIT: u64 = 1 << 62;
 const GROWTH: u64 = 4096;
 
 /// The active variables, each with an activity and a phase, in the order in which they are decided.
-/// Those that `next` passed over are no candidates until they are put back.
+/// Those that a decision passed over as set are no candidates until they are put back.
 #[derive(Debug, Drop)]
 pub struct PickOrder {
     // By variable, what is known of it where it is active.
@@ -82,10 +82,23 @@ impl PickOrder {
     /// number where several have it, as a literal with its phase. None exactly where every active
     /// variable is set.
     ///
-    /// The trail sets every variable that was passed over: what it no longer sets is put back
-    /// before, by `put_back`, or by `put_back_unset` where the trail has nothing to do with the
-    /// last one. Each variable that is passed over here costs a logarithmic step.
+    /// Any trail will do. So each call walks over all variables, to make those that were passed
+    /// over candidates again where the trail leaves them unset.
     pub fn next(&mut self, trail: &Trail) -> Option<InLit>
+        ensures none { IsNone result ↔ AllSet self.old.known trail.now.steps }
+        ensures some { IfSome result (λ l. (p : Preference) × IsPick self.old.known trail.now.steps l p) }
+        ensures same { self.new ≡ record self.old { candidates = self.new.candidates } }
+        ensures passed { HasPassedSet self.new trail.now.steps }
+    {
+        self.put_back_unset(trail);
+        self.next_candidate(trail)
+    }
+
+    /// What `next` answers, with no walk over all variables, for a trail that sets every variable
+    /// that was passed over: what it no longer sets is put back before, by `put_back`, or by
+    /// `put_back_unset` where the trail has nothing to do with the last one. Each variable that is
+    /// passed over here costs a logarithmic step.
+    pub fn next_candidate(&mut self, trail: &Trail) -> Option<InLit>
         requires { HasPassedSet self.old trail.now.steps }
         ensures none { IsNone result ↔ AllSet self.old.known trail.now.steps }
         ensures some { IfSome result (λ l. (p : Preference) × IsPick self.old.known trail.now.steps l p) }
@@ -113,8 +126,8 @@ impl PickOrder {
     }
 
     /// Makes all variables that were passed over and that a trail leaves unset candidates again, in
-    /// one walk over all variables. Then `next` may be asked of that trail, whatever it has to do
-    /// with the last one.
+    /// one walk over all variables. Then `next_candidate` may be asked of that trail, whatever it
+    /// has to do with the last one.
     pub fn put_back_unset(&mut self, trail: &Trail)
         ensures same { self.new ≡ record self.old { candidates = self.new.candidates } }
         ensures passed { (v : ℕ) → is_passed self.new v ≡ (is_passed self.old v && set_in trail.now.steps v) }

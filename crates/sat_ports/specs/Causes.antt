@@ -2,9 +2,17 @@
 use Rattle.std.specs.Prelude.{◌≡◌, ℕ, ◌+◌, ◌-◌, ◌^◌, ◌≤◌, min, OnOk, OnErr}
 use Rattle.std.specs.declared.result.Result.{Result}
 
+-- a count with so many more, which stops at its last value
+abbrev pub raised : ℕ → ℕ → ℕ
+raised by count = min (count + by) (2 ^ 64 - 1)
+
+-- a count with one more
+abbrev pub one_more : ℕ → ℕ
+one_more count = raised 1 count
+
 -- a count went up by so many, or stands at its last value
 abbrev pub RoseBy : ℕ → ℕ → ℕ → Type 0
-RoseBy by before now = min (before + by) (2 ^ 64 - 1) ≤ now
+RoseBy by before now = raised by before ≤ now
 
 -- a count went up, or stands at its last value
 abbrev pub Rose : ℕ → ℕ → Type 0

@@ -1,7 +1,8 @@
 -- What contracts see of the forms in memory.
-use Rattle.std.specs.Prelude.{ℕ, ◌==◌, ◌-◌, Bool, ◌||◌, ◌&&◌, List, length, min, nat_lt, refl}
+use Rattle.std.specs.Prelude.{ℕ, ◌==◌, ◌-◌, Bool, ◌||◌, ◌&&◌, List, ◌++◌, length, take, drop, min, nat_lt, refl}
 use Rattle.std.specs.List.{list_any}
 use Rattle.std.specs.Coded.{Coded, code_by, coded×, coded_ℕ}
+use Rattle.sat_ports.specs.Causes.{one_more}
 
 -- bytes that are read in pieces of one size; the calls with these numbers fail
 pub record Pieces : Type 0 where
@@ -18,6 +19,22 @@ pub record Shelf : Type 0 where
   pub failing : List ℕ
   pub calls : ℕ
   pub faults : ℕ
+
+-- after a read that gave so many bytes: they are gone, and the call is counted
+abbrev pub after_read : ℕ → Pieces → Pieces
+after_read count s = record s { left = drop count s.left; calls = one_more s.calls }
+
+-- after a read that failed: the call and the failure are counted
+abbrev pub after_failed_read : Pieces → Pieces
+after_failed_read s = record s { calls = one_more s.calls; faults = one_more s.faults }
+
+-- after a write that took so many bytes of some: they stand at the end, and the call is counted
+abbrev pub after_write : ℕ → List ℕ → Shelf → Shelf
+after_write count piece s = record s { written = s.written ++ take count piece; calls = one_more s.calls }
+
+-- after a write that failed: the call and the failure are counted
+abbrev pub after_failed_write : Shelf → Shelf
+after_failed_write s = record s { calls = one_more s.calls; faults = one_more s.faults }
 
 -- whether a call is among those that are to fail
 abbrev pub is_listed : ℕ → List ℕ → Bool

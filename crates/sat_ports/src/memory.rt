@@ -1,9 +1,9 @@
-ghost use Rattle.std.specs.Prelude.{◌≡◌, ◌<◌, ◌≤◌, ◌↔◌, ℕ, List, [], Some, IfOk, OnOk, IsErr, IsTrue, IsFalse, length, drop, take, min, true, false};
+ghost use Rattle.std.specs.Prelude.{◌≡◌, ◌<◌, ◌≤◌, ◌↔◌, ℕ, List, [], Some, IfOk, OnOk, OnErr, IsErr, IsTrue, IsFalse, length, drop, take, min, true, false};
 ghost use Rattle.std.specs.Io.{ReadsAtMost};
 ghost use Rattle.std.specs.Io.KnownBytes.{ReadConsumes};
 ghost use Rattle.sat_ports.specs.Causes.{Rose, HasCause};
 ghost use Rattle.sat_ports.specs.Writes.{Advances, WritesFront};
-ghost use Rattle.sat_ports.specs.Forms.{Pieces, Shelf, is_listed, is_refused, fitting};
+ghost use Rattle.sat_ports.specs.Forms.{Pieces, Shelf, is_listed, is_refused, fitting, after_read, after_failed_read, after_write, after_failed_write};
 
 use crate::failure::count_failure;
 use crate::{Alarm, Failed, Sink, Source};
@@ -99,6 +99,10 @@ impl<'a> Source for BytesSource<'a> {
         // Exactly the listed calls fail, and each other call gives as much as it may.
         ensures listed { IsErr result ↔ IsTrue (is_listed self.old.calls self.old.failing) }
         ensures whole { IfOk result (λ n. n ≡ min (min self.old.piece (length into.old)) (length self.old.left)) }
+
+        // What the next call depends on.
+        ensures next { IfOk result (λ n. self.new ≡ after_read n self.old) }
+        ensures after_failure { OnErr result (self.new ≡ after_failed_read self.old) }
     {
         let call = self.calls;
         self.calls = call.saturating_add(1);
@@ -177,6 +181,10 @@ impl Sink for BytesSink {
         // Exactly the refused calls fail, and each other call takes what has room.
         ensures refused { IsErr result ↔ IsTrue (is_refused self.old piece.now) }
         ensures whole { IfOk result (λ n. n ≡ fitting self.old piece.now) }
+
+        // What the next call depends on. A failure appends nothing.
+        ensures next { IfOk result (λ n. self.new ≡ after_write n piece.now self.old) }
+        ensures after_failure { OnErr result (self.new ≡ after_failed_write self.old) }
     {
         let call = self.calls;
         self.calls = call.saturating_add(1);

@@ -122,4 +122,30 @@ mod tests {
         assert_eq!(rt; sink.writer.as_slice(), b"v 1 0\n".as_slice());
         Ok(())
     }
+
+    /// Takes all that it is given, and counts how often it is flushed.
+    #[derive(Drop)]
+    struct CountsFlushes {
+        flushes: u32,
+    }
+
+    impl Write for CountsFlushes {
+        fn write(&mut self, piece: &[u8]) -> std::io::Result<usize> {
+            Ok(piece.len())
+        }
+
+        fn flush(&mut self) -> std::io::Result<()> {
+            self.flushes = self.flushes.saturating_add(1);
+            Ok(())
+        }
+    }
+
+    #[test]
+    fn each_write_is_flushed(rt: HostRuntime) {
+        let mut sink = StdSink::new(CountsFlushes { flushes: 0 });
+        assert_eq!(rt; sink.write(b"v 1"), Ok(3));
+        assert_eq!(rt; sink.writer.flushes, 1);
+        assert_eq!(rt; sink.write(b" 0\n"), Ok(3));
+        assert_eq!(rt; sink.writer.flushes, 2);
+    }
 }

@@ -96,7 +96,7 @@ impl Work {
         ensures conflicts { self.new.conflicts ≡ self.old.conflicts }
         ensures assumptions { self.new.assumptions ≡ self.old.assumptions }
     {
-        if let Some(lit) = self.order.next(&self.trail) {
+        if let Some(lit) = self.order.next_candidate(&self.trail) {
             self.trail.decide(lit);
             return None;
         }

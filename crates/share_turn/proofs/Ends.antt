@@ -17,7 +17,7 @@ use Rattle.share_store.specs.Log.{StartsWith}
 use Rattle.share_turn.specs.Views.{IsLegalFor, IsRightOutcome}
 use Rattle.share_turn.specs.Board.{Slot, Board, Stage, quiet, claimed, raised, put, posted, rank, stage_word, claim_at, outcome_home, RightAt, turn_word, store_home}
 use Rattle.share_turn.proofs.Fronts.{live_one, live_two, there, index_of}
-use Rattle.share_turn.proofs.TurnSteps.{St, K, first_is}
+use Rattle.share_turn.proofs.TurnSteps.{St, K, first_is, has_posted_one}
 use Rattle.share_turn.proofs.OutcomeSteps.{end_stage}
 
 -- where no pass has a claim and the word is not 0, it is 2
@@ -37,6 +37,11 @@ if_there (Some x) P there = tt
 if_holds : {X : Type 0} (o : Option X) (P : Type 0) → P → IfNone o P
 if_holds None P p = p
 if_holds (Some x) P p = tt
+
+-- what holds of each value that may be there
+pub if_each : {X : Type 0} (o : Option X) (P : X → Type 0) → ((x : X) → o ≡ Some x → P x) → IfSome o P
+if_each None P each = tt
+if_each (Some x) P each = each x refl
 
 module _ (q : Question) where
   -- where as many passes were joined as split off, every other one was joined
@@ -186,3 +191,15 @@ module _ (q : Question) where
         let e = ends_outcome (word ∙ ap (λ (n : ℕ). some n) two) in
         let same : said ≡ Some (Said e.0) = some-injective said (Some (Said e.0)) (sym slot ∙ e.1) in
         subst (λ (x : Option Outcome). IsSome x) (sym (ended e.0 two same)) (search rules)
+
+    -- it hands out the outcome that the first pass has
+    pub close_kept : (o : Option Outcome) (stage : ℕ) (said : Slot) (own : Outcome) → ((x : Outcome) → stage ≡ 2 → said ≡ Some (Said x) → o ≡ Some x)
+        → get_elem? ws 1 ≡ some stage → get_elem? xs 1 ≡ some said → v.claim ≡ Quiet → v.outcome ≡ Some own → o ≡ Some own
+    close_kept o stage said own ended word slot calm has =
+        let s : St = end.0 in
+        let r : K q s = end.1.0 in
+        let on : r.board.stage ≡ posted own = has_posted_one q r.board id v own (r.each id v end.1.1) calm has in
+        let two : stage ≡ 2 = sym (index_of ws 1 stage word) ∙ ap (λ (l : List ℕ). get_or l 1 0) (sym end.2) ∙ r.stage_is ∙ ap stage_word on in
+        let home = end.4 1 (Some (Said own)) (r.outcome_is ∙ ap (λ t. some (outcome_home t)) on) in
+        let same : said ≡ Some (Said own) = some-injective said (Some (Said own)) (sym slot ∙ home) in
+        ended own two same

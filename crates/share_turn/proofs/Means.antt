@@ -10,6 +10,7 @@ use Rattle.share_turn.specs.declared.view.View.{View}
 use Rattle.share_turn.specs.declared.view.Question.{Question}
 use Rattle.share_turn.specs.declared.view.Phase.{Phase}
 use Rattle.share_turn.specs.declared.view.Phase.TheVariants.{Free, Won, Away, Out, Back}
+use Rattle.share_turn.specs.declared.view.Claim.{Claim}
 use Rattle.share_turn.specs.declared.view.Claim.TheVariants.{Quiet, Claimed, Lifted, Put}
 use Rattle.sat_lits.specs.declared.shared.Shared.{Shared}
 use Rattle.share_store.specs.Log.{StartsWith}
@@ -17,8 +18,8 @@ use Rattle.share_turn.specs.Views.{IsLegalFor, IsRightOutcome}
 use Rattle.share_turn.specs.Board.{RightAt, live, Board, Fits, HasBoard, Stage, quiet, claimed, raised, put, posted, rank, stage_word, claim_at, outcome_home, turn_word, store_home, PhaseOf}
 use Rattle.share_turn.specs.Rule.{IsLive, HasOut, KeepsTurns}
 use Rattle.share_turn.proofs.Fronts.{there}
-use Rattle.share_turn.proofs.TurnSteps.{St, word_free, holding, away_free, out_free, back_free, first_is}
-use Rattle.share_turn.proofs.OutcomeSteps.{not_true, claiming, stage_free, lifted_quiet, put_quiet}
+use Rattle.share_turn.proofs.TurnSteps.{St, word_free, holding, away_free, out_free, back_free, first_is, put_quiet}
+use Rattle.share_turn.proofs.OutcomeSteps.{not_true, claiming, stage_free, lifted_quiet}
 
 -- word 0 is 0 or 1
 word_cases : (t : Phase) → (turn_word t ≡ 0) ⊎ (turn_word t ≡ 1)
@@ -105,6 +106,10 @@ put_right q a claimed d r = absurd (⊎_elim (λ (e : 1 ≡ 2). omega arith) (λ
 put_right q a raised d r = absurd (⊎_elim (λ (e : 1 ≡ 2). omega arith) (λ (e : Lifted ≡ Put). cc) d)
 put_right q a (put o) d r = (o, refl, r)
 put_right q a (posted o) d r = (o, refl, r)
+
+-- an outcome that some pass has is at home
+said_home : (t : Stage) (c : Claim) (o : Outcome) → (t ≡ posted o) ⊎ ((t ≡ put o) × (c ≡ Put)) → outcome_home t ≡ some (Some (Said o))
+said_home t c o d = ⊎_elim (λ (e : t ≡ posted o). ap outcome_home e) (λ (e : (t ≡ put o) × (c ≡ Put)). ap outcome_home e.0) d
 
 -- a pass with the turn or a claim was not joined
 is_live : (q : Question) (b : Board) (j : ℕ) (v : View) → Fits q b j v → (v.turn ≡ Free → v.claim ≡ Quiet → ⊥) → v.spent ≡ false
@@ -196,6 +201,7 @@ module _ (q : Question) (s : St) (r : HasBoard q s) where
                 λ i w l first. let g = r.each i w l.0 in subst (λ a. IsRightOutcome q a p.0) (sym (g.first_here (first_is q b i w g first)).2) p.2,
               ),
             );
+        outcome_said = λ j v l o e. r.outcome_is ∙ ap (λ x. some x) (said_home b.stage v.claim o ((r.each j v l.0).outcome o e));
         one_first =
             let long : 0 < length s.views = let h = r.holder in omega arith in
             let w = there s.views 0 long in

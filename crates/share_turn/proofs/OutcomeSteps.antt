@@ -1,13 +1,15 @@
 -- Each step on the outcome keeps the rule.
-use Rattle.std.proofs.Common.{◌≡◌, ◌≢◌, ◌⊎◌, ℕ, ◌+◌, ◌<◌, ◌≤◌, eqb, Bool, true, false, true≢false, List, [], ◌∷◌, length, get_or, set, Some, None, refl, sym, ap, ◌∙◌, subst, ⊎_elim, inl, inr, arith, length-set, get_or-set_other, get_or-set_same}
+use Rattle.std.proofs.Common.{◌≡◌, ◌≢◌, ◌⊎◌, ℕ, ◌+◌, ◌<◌, ◌≤◌, eqb, Bool, true, false, true≢false, List, [], ◌∷◌, length, get_or, set, Option, Some, None, refl, sym, ap, ◌∙◌, subst, ⊎_elim, inl, inr, arith, length-set, get_or-set_other, get_or-set_same}
 use mathlib.Core.Logic.{dite}
 use mathlib.Core.Option.{some, none, some-injective}
 use mathlib.Core.Option as maybe
 use native.Mathlib.Decide.{ℕ_discrete}
 use lib.ListN.{get_elem?}
 use prog.Atomic.{either}
+use Rattle.std.proofs.lemmas.Option.{same_Some}
 use Rattle.atomic_table.specs.Table.{Act, step, keeps, takes, gives, stepped, Valid, carried_after, Allows, rest}
 use Rattle.atomic_table.proofs.Lists.{set_here, set_else, exchanged}
+use Rattle.share_store.specs.Laws.{starts_refl}
 use Rattle.share_turn.specs.declared.held.Held.TheVariants.{Stored, Said}
 use Rattle.share_turn.specs.declared.held.Outcome.{Outcome}
 use Rattle.share_turn.specs.declared.held.Outcome.TheVariants.{Verdict, Halted}
@@ -20,7 +22,7 @@ use Rattle.share_turn.specs.Views.{IsRightOutcome, at_claim, came_late, alarm_af
 use Rattle.share_turn.specs.Board.{Slot, Board, Fits, Stage, quiet, claimed, raised, put, posted, rank, stage_word, claim_at, outcome_home, RightAt}
 use Rattle.share_turn.specs.Steps.{Mine, asked, held_up, laid, shown, looked}
 use Rattle.share_turn.proofs.Fronts.{each_set, inside, live_same}
-use Rattle.share_turn.proofs.TurnSteps.{St, K, stays, first_is}
+use Rattle.share_turn.proofs.TurnSteps.{St, K, stays, first_is, put_quiet, has_posted_one, still_fits, learns}
 
 -- word 1 is 0 only where nobody claimed the outcome
 pub stage_free : (t : Stage) → stage_word t ≡ 0 → t ≡ quiet
@@ -83,9 +85,6 @@ claimed_quiet e = cc
 pub lifted_quiet : Lifted ≡ Quiet → ⊥
 lifted_quiet e = cc
 
-pub put_quiet : Put ≡ Quiet → ⊥
-put_quiet e = cc
-
 -- the outcome in a slot
 abbrev held_outcome : Outcome → Slot → Outcome
 held_outcome d None = d
@@ -116,16 +115,22 @@ module _ (q : Question) where
   put_second : (s : St) (r : K q s) (n : ℕ) → (length (set s.words 1 n) ≡ 2) × (get_or (set s.words 1 n) 0 0 ≡ get_or s.words 0 0) × (get_or (set s.words 1 n) 1 0 ≡ n)
   put_second s r n = let two : length s.words ≡ 2 = r.words in (length-set s.words 1 n ∙ two, get_or-set_other s.words 1 0 n 0 (λ e. omega arith), get_or-set_same s.words 1 n 0 (omega arith))
 
+  -- no pass has an outcome before one is put
+  none_yet : (b : Board) (j : ℕ) (v : View) (o : Outcome) → Fits q b j v → rank b.stage < 3 → v.outcome ≡ Some o → ⊥
+  none_yet b j v o f low e =
+      ⊎_elim (λ (h : b.stage ≡ posted o). let k : rank b.stage ≡ 4 = ap rank h in omega arith)
+      (λ (h : (b.stage ≡ put o) × (v.claim ≡ Put)). let k : rank b.stage ≡ 3 = ap rank h.0 in omega arith) (f.outcome o e)
+
   -- a step by which the outcome goes to the stage t, by the pass id
-  staged : (s : St) (r : K q s) (id : ℕ) (v : View) (t : Stage) (over alarm alarms : Bool) (ws : List ℕ) (hs : List (maybe.Option Slot)) → get_elem? s.views id ≡ some v → v.spent ≡ false
-      → (id ≡ r.board.claimer) ⊎ (claim_at r.board.stage ≡ Quiet) → rank r.board.stage ≤ rank t → RightAt q alarms t → 0 < rank t → (over ≡ true → 4 ≤ rank t) → (alarm ≡ true → (4 ≤ rank t) ⊎ (claim_at t ≡ Put))
+  staged : (s : St) (r : K q s) (id : ℕ) (v : View) (t : Stage) (over : Bool) (own : Option Outcome) (alarm alarms : Bool) (ws : List ℕ) (hs : List (maybe.Option Slot)) → get_elem? s.views id ≡ some v → v.spent ≡ false
+      → (id ≡ r.board.claimer) ⊎ (claim_at r.board.stage ≡ Quiet) → rank r.board.stage ≤ rank t → rank r.board.stage < 4 → RightAt q alarms t → 0 < rank t → (over ≡ true → 4 ≤ rank t) → ((o : Outcome) → own ≡ Some o → (t ≡ posted o) ⊎ ((t ≡ put o) × (claim_at t ≡ Put))) → (alarm ≡ true → (4 ≤ rank t) ⊎ (claim_at t ≡ Put))
       → (id ≡ 0 → alarm ≡ alarms) → (id ≢ 0 → (alarm ≡ false) × (alarms ≡ r.board.alarmed))
       → (length ws ≡ 2) × (get_or ws 0 0 ≡ get_or s.words 0 0) × (get_or ws 1 0 ≡ stage_word t) → get_elem? hs 0 ≡ get_elem? s.homes 0 → get_elem? hs 1 ≡ some (outcome_home t)
-      → K q record { words = ws; homes = hs; views = set s.views id (record v { claim = claim_at t; posted = over; alarmed = alarm }) }
-  staged s r id v t over alarm alarms ws hs at alive mine up right some_rank ended rung here else words store outcome =
+      → K q record { words = ws; homes = hs; views = set s.views id (record v { claim = claim_at t; posted = over; outcome = own; alarmed = alarm }) }
+  staged s r id v t over own alarm alarms ws hs at alive mine up unended right some_rank ended says rung here else words store outcome =
       let b : Board = r.board in
       let b' : Board = record b { claimer = id; stage = t; alarmed = alarms } in
-      let w : View = record v { claim = claim_at t; posted = over; alarmed = alarm } in
+      let w : View = record v { claim = claim_at t; posted = over; outcome = own; alarmed = alarm } in
       let f = r.each id v at in
       let long = length-set s.views id w in
       let quiet_else = λ (j : ℕ) (u : View) (g : Fits q b j u) (apart : j ≢ id). ⊎_elim (λ (h : id ≡ b.claimer). g.claim_else (λ same. apart (same ∙ sym h)))
@@ -154,6 +159,7 @@ module _ (q : Question) where
               claim_here = λ _. refl;
               claim_else = λ other. absurd (other refl);
               late = λ _. some_rank;
+              outcome = says;
               posted = ended;
               alarmed = rung;
               first_here = λ z. let m = f.first_here z in (m.0, m.1, here z, m.3, m.4);
@@ -161,21 +167,8 @@ module _ (q : Question) where
             }
             (λ j u apart e.
             let g = r.each j u e in
-            record {
-              about = g.about;
-              resting = g.resting;
-              seen = g.seen;
-              told = g.told;
-              turn_here = g.turn_here;
-              turn_else = g.turn_else;
-              claim_here = λ same. absurd (apart same);
-              claim_else = λ _. quiet_else j u g apart;
-              late = λ h. some_rank;
-              posted = λ h. let k = g.posted h in omega arith;
-              alarmed = λ h. inl (⊎_elim (λ (k : 4 ≤ rank b.stage). omega arith) (λ (k : u.claim ≡ Put). absurd (put_quiet (sym k ∙ quiet_else j u g apart))) (g.alarmed h));
-              first_here = λ z. let m = g.first_here z in (m.0, m.1, m.2 ∙ sym (else (λ o. apart (z ∙ sym o))).1, m.3, m.4);
-              first_else = g.first_else;
-            });
+            let calm = quiet_else j u g apart in
+            still_fits q b b' j u g (starts_refl b.log) (g.turn_here, g.turn_else) ((λ same. absurd (apart same)), λ _. calm) up (inr (calm, unended)) (λ z. ((else (λ o. apart (z ∙ sym o))).1, refl, refl)));
       }
 
   -- the try to claim the outcome keeps the rule
@@ -191,8 +184,8 @@ module _ (q : Question) where
         at_claim Claimed me.0,
         keeps,
         tt,
-        staged s r id me.0 claimed me.0.posted me.0.alarmed b.alarmed (set s.words 1 1) s.homes at alive (inr (ap claim_at on)) (omega arith) tt (omega arith)
-            (λ h. let k = f.posted h in absurd (omega arith)) (λ h. ⊎_elim (λ (x : 4 ≤ rank b.stage). absurd (omega arith)) (λ (x : me.0.claim ≡ Put). absurd (put_quiet (sym x ∙ calm))) (f.alarmed h)) (λ z. (f.first_here z).2) (λ o. ((f.first_else o).1, refl))
+        staged s r id me.0 claimed me.0.posted me.0.outcome me.0.alarmed b.alarmed (set s.words 1 1) s.homes at alive (inr (ap claim_at on)) (omega arith) (omega arith) tt (omega arith)
+            (λ h. let k = f.posted h in absurd (omega arith)) (λ o e. absurd (none_yet b id me.0 o f (omega arith) e)) (λ h. ⊎_elim (λ (x : 4 ≤ rank b.stage). absurd (omega arith)) (λ (x : me.0.claim ≡ Put). absurd (put_quiet (sym x ∙ calm))) (f.alarmed h)) (λ z. (f.first_here z).2) (λ o. ((f.first_else o).1, refl))
             (put_second s r 1) refl (r.outcome_is ∙ ap (λ t. some (outcome_home t)) on),
         (refl, (λ _. refl), λ miss. absurd (miss hit)),
       ))
@@ -201,7 +194,7 @@ module _ (q : Question) where
         keeps,
         tt,
         stays q s r id me.0 (came_late me.0) (set s.words 1 n) at refl
-            record { about = f.about; resting = f.resting; seen = f.seen; told = f.told; turn_here = f.turn_here; turn_else = f.turn_else; claim_here = f.claim_here; claim_else = f.claim_else; late = λ _. stage_taken b.stage (λ z. miss (r.stage_is ∙ z)); posted = f.posted; alarmed = f.alarmed; first_here = f.first_here; first_else = f.first_else }
+            (learns q b id me.0 me.0.seen me.0.told true me.0.posted me.0.tries me.0.looks f f.seen f.told (λ _. stage_taken b.stage (λ z. miss (r.stage_is ∙ z))) f.posted)
             (put_second s r n),
         (refl, (λ hit. absurd (miss hit)), λ _. refl),
       ))
@@ -220,8 +213,8 @@ module _ (q : Question) where
         at_claim Lifted me.0,
         takes 1 None,
         r.outcome_is ∙ ap (λ t. some (outcome_home t)) on,
-        staged s r id me.0 raised me.0.posted me.0.alarmed b.alarmed (set s.words 1 n) (set s.homes 1 none) at alive (inl held.0) (omega arith) tt (omega arith)
-            (λ h. let k = f.posted h in absurd (omega arith)) (λ h. ⊎_elim (λ (x : 4 ≤ rank b.stage). absurd (omega arith)) (λ (x : me.0.claim ≡ Put). let y : Claimed ≡ Put = sym is ∙ x in absurd (cc)) (f.alarmed h)) (λ z. (f.first_here z).2) (λ o. ((f.first_else o).1, refl))
+        staged s r id me.0 raised me.0.posted me.0.outcome me.0.alarmed b.alarmed (set s.words 1 n) (set s.homes 1 none) at alive (inl held.0) (omega arith) (omega arith) tt (omega arith)
+            (λ h. let k = f.posted h in absurd (omega arith)) (λ o e. absurd (none_yet b id me.0 o f (omega arith) e)) (λ h. ⊎_elim (λ (x : 4 ≤ rank b.stage). absurd (omega arith)) (λ (x : me.0.claim ≡ Put). let y : Claimed ≡ Put = sym is ∙ x in absurd (cc)) (f.alarmed h)) (λ z. (f.first_here z).2) (λ o. ((f.first_else o).1, refl))
             (ws.0, ws.1, ws.2 ∙ r.stage_is ∙ ap stage_word on) (set_else s.homes 1 0 none (λ e. omega arith)) (set_here s.homes 1 none (omega arith)),
         (refl, refl),
       )
@@ -253,12 +246,18 @@ module _ (q : Question) where
         gives,
         tt,
         subst (λ c. K q (stepped s 1 n id c (with_outcome o me.0) gives)) (sym hand)
-            (staged s r id me.0 (put o) me.0.posted (alarm_after o me.0.alarmed) (alarm_after o b.alarmed) (set s.words 1 n) (set s.homes 1 home) at alive (inl held.0) (omega arith)
-            (right_after me.0 b o (f.about alive) may) (omega arith) (λ h. let k = f.posted h in absurd (omega arith)) (λ _. inr refl)
+            (staged s r id me.0 (put o) me.0.posted (Some o) (alarm_after o me.0.alarmed) (alarm_after o b.alarmed) (set s.words 1 n) (set s.homes 1 home) at alive (inl held.0) (omega arith) (omega arith)
+            (right_after me.0 b o (f.about alive) may) (omega arith) (λ h. let k = f.posted h in absurd (omega arith)) (λ p e. inr (ap put (same_Some o p e), refl)) (λ _. inr refl)
             (λ z. ap (alarm_after o) (f.first_here z).2) (alarm_else me.0 b id o f may)
             (ws.0, ws.1, ws.2 ∙ r.stage_is ∙ ap stage_word on) (set_else s.homes 1 0 home (λ e. omega arith)) (set_here s.homes 1 home (omega arith))),
         (refl, λ p e. let both : (1, Some (Said o)) ∷ xs ≡ (1, Some (Said p)) ∷ rest me.1 = sym hand ∙ e in let same : o ≡ p = ap (outcome_in Halted) both in ap (λ x. with_outcome x me.0) same),
       )
+
+  -- the outcome that a pass has while one is put is that one
+  is_put_one : (b : Board) (j : ℕ) (v : View) (o p : Outcome) → Fits q b j v → b.stage ≡ put p → v.outcome ≡ Some o → p ≡ o
+  is_put_one b j v o p f on e =
+      ⊎_elim (λ (h : b.stage ≡ posted o). let z : put p ≡ posted o = sym on ∙ h in absurd (cc))
+      (λ (h : (b.stage ≡ put o) × (v.claim ≡ Put)). let z : put p ≡ put o = sym on ∙ h.0 in cc) (f.outcome o e)
 
   -- the outcome is posted
   pub shows : (slots id : ℕ) (me : Mine) → me.0.spent ≡ false → me.0.claim ≡ Put → Allows (K q) slots id me 1 (λ _. 2) (λ _. shown (step slots 1 2 0 none) me 2)
@@ -272,8 +271,8 @@ module _ (q : Question) where
         has_posted me.0,
         keeps,
         tt,
-        staged s r id me.0 (posted p.0) true me.0.alarmed b.alarmed (set s.words 1 2) s.homes at alive (inl held.0) (omega arith) (subst (RightAt q b.alarmed) on r.right) (omega arith)
-            (λ _. omega arith) (λ _. inl (omega arith)) (λ z. (f.first_here z).2) (λ o. ((f.first_else o).1, refl))
+        staged s r id me.0 (posted p.0) true me.0.outcome me.0.alarmed b.alarmed (set s.words 1 2) s.homes at alive (inl held.0) (omega arith) (omega arith) (subst (RightAt q b.alarmed) on r.right) (omega arith)
+            (λ _. omega arith) (λ o e. inl (ap posted (is_put_one b id me.0 o p.0 f on e))) (λ _. inl (omega arith)) (λ z. (f.first_here z).2) (λ o. ((f.first_else o).1, refl))
             (put_second s r 2) refl (r.outcome_is ∙ ap (λ t. some (outcome_home t)) on),
         (refl, refl),
       )
@@ -290,7 +289,7 @@ module _ (q : Question) where
         keeps,
         tt,
         stays q s r id me.0 (saw_end me.0) (set s.words 1 n) at refl
-            record { about = f.about; resting = f.resting; seen = f.seen; told = f.told; turn_here = f.turn_here; turn_else = f.turn_else; claim_here = f.claim_here; claim_else = f.claim_else; late = f.late; posted = λ _. stage_end b.stage (sym r.stage_is ∙ over); alarmed = f.alarmed; first_here = f.first_here; first_else = f.first_else }
+            (learns q b id me.0 me.0.seen me.0.told me.0.late true me.0.tries (me.0.looks + 1) f f.seen f.told f.late (λ _. stage_end b.stage (sym r.stage_is ∙ over)))
             (put_second s r n),
         (refl, (λ _. refl), λ not. absurd (not over)),
       ))
@@ -299,7 +298,6 @@ module _ (q : Question) where
         keeps,
         tt,
         stays q s r id me.0 (saw_none me.0) (set s.words 1 n) at refl
-            record { about = f.about; resting = f.resting; seen = f.seen; told = f.told; turn_here = f.turn_here; turn_else = f.turn_else; claim_here = f.claim_here; claim_else = f.claim_else; late = f.late; posted = f.posted; alarmed = f.alarmed; first_here = f.first_here; first_else = f.first_else }
-            (put_second s r n),
+            (learns q b id me.0 me.0.seen me.0.told me.0.late me.0.posted me.0.tries (me.0.looks + 1) f f.seen f.told f.late f.posted) (put_second s r n),
         (refl, (λ over. absurd (not over)), λ _. (not_true me.0.posted (λ h. not (r.stage_is ∙ end_stage b.stage (f.posted h))), refl)),
       ))

@@ -1,24 +1,27 @@
 -- Each step on the turn keeps the rule.
-use Rattle.std.proofs.Common.{◌≡◌, ◌≢◌, ◌⊎◌, ℕ, zero, suc, ◌+◌, ◌<◌, eqb, Bool, true, false, true≢false, ◌||◌, if◌then◌else◌, List, [], ◌∷◌, ◌++◌, length, get_or, set, replicate, Some, None, refl, sym, ap, ◌∙◌, subst, ⊎_elim, inl, inr, arith, length-set, length-append, get_or-set_other, get_or-set_same}
+use Rattle.std.proofs.Common.{◌≡◌, ◌≢◌, ◌⊎◌, ℕ, zero, suc, ◌+◌, ◌<◌, ◌≤◌, eqb, Bool, true, false, true≢false, ◌||◌, if◌then◌else◌, List, [], ◌∷◌, ◌++◌, length, get_or, set, replicate, Option, Some, None, refl, sym, ap, ◌∙◌, subst, ⊎_elim, inl, inr, arith, length-set, length-append, get_or-set_other, get_or-set_same}
 use mathlib.Core.Logic.{dite}
 use mathlib.Core.Option.{some, none, some-ne-none, some-injective}
 use mathlib.Core.Option as maybe
 use native.Mathlib.Decide.{ℕ_discrete}
 use lib.ListN.{get_elem?}
 use prog.Atomic.{either}
+use Rattle.std.specs.Option.{option_or}
+use Rattle.std.proofs.lemmas.Option.{none-some}
 use Rattle.atomic_table.specs.Table.{State, Me, step, keeps, takes, gives, stepped, put_back, Allows, Splits, Joins, opening, rest}
 use Rattle.atomic_table.proofs.Lists.{at_set, set_here, set_else, exchanged}
 use Rattle.share_turn.specs.declared.held.Held.TheVariants.{Stored, Said}
+use Rattle.share_turn.specs.declared.held.Outcome.{Outcome}
 use Rattle.share_turn.specs.declared.view.View.{View}
 use Rattle.share_turn.specs.declared.view.Question.{Question}
 use Rattle.share_turn.specs.declared.view.Phase.{Phase}
 use Rattle.share_turn.specs.declared.view.Phase.TheVariants.{Free, Won, Away, Out, Back}
-use Rattle.share_turn.specs.declared.view.Claim.TheVariants.{Quiet}
+use Rattle.share_turn.specs.declared.view.Claim.TheVariants.{Quiet, Put}
 use Rattle.sat_lits.specs.declared.shared.Shared.{Shared}
 use Rattle.share_store.specs.Log.{StartsWith}
 use Rattle.share_store.specs.Laws.{starts_refl, starts_trans, starts_none}
-use Rattle.share_turn.specs.Views.{IsLegalFor, at_turn, opening_view, newcomer, divided, united, heard_of, won, lost, freed}
-use Rattle.share_turn.specs.Board.{Slot, Board, Fits, HasBoard, quiet, turn_word, store_home, PhaseOf}
+use Rattle.share_turn.specs.Views.{IsLegalFor, longer, at_turn, opening_view, newcomer, divided, united, heard_of, won, lost, freed}
+use Rattle.share_turn.specs.Board.{Slot, Board, Fits, HasBoard, Stage, quiet, put, posted, rank, claim_at, turn_word, store_home, PhaseOf}
 use Rattle.share_turn.specs.Steps.{Mine, settled, gone, tried, lifted, emptied, reached, landed, released, heard}
 use Rattle.share_turn.specs.Laws.{none_is_legal}
 use Rattle.share_turn.proofs.Fronts.{longer_both, inside, at_end, each_set, weight, live_set, live_same, live_end}
@@ -47,6 +50,15 @@ word_taken (Back h) n = refl
 pub either_true : (p q : Bool) → (p || q) ≡ true → (p ≡ true) ⊎ (q ≡ true)
 either_true true q e = inl refl
 either_true false q e = inr e
+
+-- the outcome that one of two passes has
+either_outcome : (x y : Option Outcome) (o : Outcome) → option_or x y ≡ Some o → (x ≡ Some o) ⊎ (y ≡ Some o)
+either_outcome None y o e = inr e
+either_outcome (Some p) y o e = inl e
+
+-- the claim of a pass that has put its outcome is not `Quiet`
+pub put_quiet : Put ≡ Quiet → ⊥
+put_quiet e = cc
 
 -- the phases other than `Free` are other
 won_free : Won ≡ Free → ⊥
@@ -85,9 +97,57 @@ module _ (q : Question) where
   pub holding : (b : Board) (j : ℕ) (v : View) (t : Phase) → Fits q b j v → v.turn ≡ t → (t ≡ Free → ⊥) → (j ≡ b.holder) × (b.turn ≡ t)
   holding b j v t f is held = dite (ℕ_discrete j b.holder) (λ e. (e, sym (f.turn_here e) ∙ is)) (λ n. absurd (held (sym is ∙ f.turn_else n)))
 
+  -- the outcome that a pass without a claim has is the posted one
+  pub has_posted_one : (b : Board) (j : ℕ) (v : View) (o : Outcome) → Fits q b j v → v.claim ≡ Quiet → v.outcome ≡ Some o → b.stage ≡ posted o
+  has_posted_one b j v o f calm e = ⊎_elim (λ (h : b.stage ≡ posted o). h) (λ (h : (b.stage ≡ put o) × (v.claim ≡ Put)). absurd (put_quiet (sym h.1 ∙ calm))) (f.outcome o e)
+
   -- the words after a write to word 0
   pub put_word : (s : St) (r : K s) (n : ℕ) → (length (set s.words 0 n) ≡ 2) × (get_or (set s.words 0 n) 0 0 ≡ n) × (get_or (set s.words 0 n) 1 0 ≡ get_or s.words 1 0)
   put_word s r n = let two : length s.words ≡ 2 = r.words in (length-set s.words 0 n ∙ two, get_or-set_same s.words 0 n 0 (omega arith), get_or-set_other s.words 0 1 n 0 (λ e. omega arith))
+
+  -- another pass keeps fitting: it has the same of the turn and of the claim as before, and the log and the stage go on
+  pub still_fits : (b b' : Board) (j : ℕ) (u : View) → Fits q b j u → StartsWith b'.log b.log
+      → (j ≡ b'.holder → u.turn ≡ b'.turn) × (j ≢ b'.holder → u.turn ≡ Free)
+      → (j ≡ b'.claimer → u.claim ≡ claim_at b'.stage) × (j ≢ b'.claimer → u.claim ≡ Quiet)
+      → rank b.stage ≤ rank b'.stage → (b'.stage ≡ b.stage) ⊎ ((u.claim ≡ Quiet) × (rank b.stage < 4))
+      → (j ≡ 0 → (b'.alarmed ≡ b.alarmed) × (b'.splits ≡ b.splits) × (b'.joins ≡ b.joins)) → Fits q b' j u
+  still_fits b b' j u g grown turn claim up stage first = record {
+    about = g.about;
+    resting = g.resting;
+    seen = starts_trans b'.log b.log u.seen grown g.seen;
+    told = starts_trans b'.log b.log u.told grown g.told;
+    turn_here = turn.0;
+    turn_else = turn.1;
+    claim_here = claim.0;
+    claim_else = claim.1;
+    late = λ h. let k = g.late h in omega arith;
+    outcome = λ o e. ⊎_elim (λ (same : b'.stage ≡ b.stage). subst (λ (t : Stage). (t ≡ posted o) ⊎ ((t ≡ put o) × (u.claim ≡ Put))) (sym same) (g.outcome o e))
+        (λ (calm : (u.claim ≡ Quiet) × (rank b.stage < 4)). absurd (let k : rank b.stage ≡ 4 = ap rank (has_posted_one b j u o g calm.0 e) in let l = calm.1 in omega arith)) stage;
+    posted = λ h. let k = g.posted h in omega arith;
+    alarmed = λ h. ⊎_elim (λ (k : 4 ≤ rank b.stage). inl (omega arith)) (λ (k : u.claim ≡ Put). inr k) (g.alarmed h);
+    first_here = λ z. let m = g.first_here z in let same = first z in (m.0, m.1, m.2 ∙ sym same.0, m.3 ∙ sym same.1, m.4 ∙ sym same.2);
+    first_else = g.first_else;
+  }
+
+  -- and so does a pass that learns something of the log or of the outcome, and counts it
+  pub learns : (b : Board) (j : ℕ) (v : View) (seen told : List Shared) (late over : Bool) (tries looks : ℕ) → Fits q b j v → StartsWith b.log seen → StartsWith b.log told → (late ≡ true → 0 < rank b.stage)
+      → (over ≡ true → 4 ≤ rank b.stage) → Fits q b j (record v { seen = seen; told = told; late = late; posted = over; tries = tries; looks = looks })
+  learns b j v seen told late over tries looks f fits_seen fits_told some_rank ended = record {
+    about = f.about;
+    resting = f.resting;
+    seen = fits_seen;
+    told = fits_told;
+    turn_here = f.turn_here;
+    turn_else = f.turn_else;
+    claim_here = f.claim_here;
+    claim_else = f.claim_else;
+    late = some_rank;
+    outcome = f.outcome;
+    posted = ended;
+    alarmed = f.alarmed;
+    first_here = f.first_here;
+    first_else = f.first_else;
+  }
 
   -- a step by which the pass id goes to the phase t, and the log to `log`
   turned : (s : St) (r : K s) (id : ℕ) (v : View) (t : Phase) (log : List Shared) (seen told : List Shared) (n : ℕ) (ws : List ℕ) (hs : List (maybe.Option Slot)) → get_elem? s.views id ≡ some v → v.spent ≡ false
@@ -124,6 +184,7 @@ module _ (q : Question) where
               claim_here = f.claim_here;
               claim_else = f.claim_else;
               late = f.late;
+              outcome = f.outcome;
               posted = f.posted;
               alarmed = f.alarmed;
               first_here = f.first_here;
@@ -131,22 +192,9 @@ module _ (q : Question) where
             }
             (λ j u apart e.
             let g = r.each j u e in
-            record {
-              about = g.about;
-              resting = g.resting;
-              seen = starts_trans log b.log u.seen grown g.seen;
-              told = starts_trans log b.log u.told grown g.told;
-              turn_here = λ same. absurd (apart same);
-              turn_else = λ _. ⊎_elim (λ (here : id ≡ b.holder). g.turn_else (λ same. apart (same ∙ sym here)))
-                  (λ (free : b.turn ≡ Free). dite (ℕ_discrete j b.holder) (λ same. g.turn_here same ∙ free) (λ other. g.turn_else other)) mine;
-              claim_here = g.claim_here;
-              claim_else = g.claim_else;
-              late = g.late;
-              posted = g.posted;
-              alarmed = g.alarmed;
-              first_here = g.first_here;
-              first_else = g.first_else;
-            });
+            let free_else = ⊎_elim (λ (here : id ≡ b.holder). g.turn_else (λ same. apart (same ∙ sym here)))
+            (λ (free : b.turn ≡ Free). dite (ℕ_discrete j b.holder) (λ same. g.turn_here same ∙ free) (λ other. g.turn_else other)) mine in
+            still_fits b b' j u g grown ((λ same. absurd (apart same)), λ _. free_else) (g.claim_here, g.claim_else) (omega arith) (inl refl) (λ _. (refl, refl, refl)));
       }
 
   -- a step at which a view alone changes
@@ -203,6 +251,7 @@ module _ (q : Question) where
         claim_else = λ _. refl;
         late = λ h. absurd (true≢false (sym h));
         posted = λ h. absurd (true≢false (sym h));
+        outcome = λ o e. absurd (none-some o e);
         alarmed = λ h. absurd (true≢false (sym h));
         first_here = λ _. (refl, refl, refl, refl, refl);
         first_else = λ n. absurd (n refl);
@@ -231,7 +280,7 @@ module _ (q : Question) where
         lost me.0,
         keeps,
         tt,
-        stays s r id me.0 (lost me.0) (set s.words 0 n) at refl record { about = f.about; resting = f.resting; seen = f.seen; told = f.told; turn_here = f.turn_here; turn_else = f.turn_else; claim_here = f.claim_here; claim_else = f.claim_else; late = f.late; posted = f.posted; alarmed = f.alarmed; first_here = f.first_here; first_else = f.first_else } ws,
+        stays s r id me.0 (lost me.0) (set s.words 0 n) at refl (learns b id me.0 me.0.seen me.0.told me.0.late me.0.posted (me.0.tries + 1) me.0.looks f f.seen f.told f.late f.posted) ws,
         (refl, (λ hit. absurd (miss hit)), λ _. (r.turn_is ∙ word_taken b.turn (λ z. miss (r.turn_is ∙ z)), refl)),
       ))
 
@@ -378,26 +427,14 @@ module _ (q : Question) where
               claim_here = f.claim_here;
               claim_else = f.claim_else;
               late = f.late;
+              outcome = f.outcome;
               posted = f.posted;
               alarmed = f.alarmed;
               first_here = λ _. (mine.0, mine.1, mine.2, ap (λ (k : ℕ). k + 1) mine.3, mine.4);
               first_else = f.first_else;
             }
-            (λ i x apart a. let g = r.each i x a in record {
-              about = g.about;
-              resting = g.resting;
-              seen = g.seen;
-              told = g.told;
-              turn_here = g.turn_here;
-              turn_else = g.turn_else;
-              claim_here = g.claim_here;
-              claim_else = g.claim_else;
-              late = g.late;
-              posted = g.posted;
-              alarmed = g.alarmed;
-              first_here = λ z. absurd (apart (z ∙ sym zero_th));
-              first_else = g.first_else;
-            }) j u old)
+            (λ i x apart a. let g = r.each i x a in
+            still_fits b b' i x g (starts_refl b.log) (g.turn_here, g.turn_else) (g.claim_here, g.claim_else) (omega arith) (inl refl) (λ z. absurd (apart (z ∙ sym zero_th)))) j u old)
             (λ (new : (j ≡ length vs) × (newcomer v ≡ u)). let last : j ≡ length vs = new.0 in subst (Fits q b' j) new.1 record {
               about = λ _. f.about mine.1;
               resting = λ dead. absurd (no dead);
@@ -409,6 +446,7 @@ module _ (q : Question) where
               claim_else = λ _. refl;
               late = λ t. absurd (no t);
               posted = λ t. absurd (no t);
+              outcome = λ o e. absurd (none-some o e);
               alarmed = λ t. absurd (no t);
               first_here = λ z. absurd (omega arith);
               first_else = λ _. (refl, refl);
@@ -456,6 +494,7 @@ module _ (q : Question) where
               claim_else = λ _. refl;
               late = λ t. absurd (no t);
               posted = λ t. absurd (no t);
+              outcome = λ o e. absurd (none-some o e);
               alarmed = λ t. absurd (no t);
               first_here = λ z. absurd (apart (z ∙ sym zero_th));
               first_else = λ _. (refl, refl);
@@ -472,25 +511,13 @@ module _ (q : Question) where
               claim_else = f.claim_else;
               late = λ t. ⊎_elim f.late h.late (either_true v.late u.late t);
               posted = λ t. ⊎_elim f.posted h.posted (either_true v.posted u.posted t);
+              outcome = λ o e. ⊎_elim (f.outcome o) (λ (is : u.outcome ≡ Some o). inl (has_posted_one b other u o h calm is)) (either_outcome v.outcome u.outcome o e);
               alarmed = f.alarmed;
               first_here = λ _. (mine.0, mine.1, mine.2, mine.3, ap (λ (k : ℕ). k + 1) mine.4);
               first_else = f.first_else;
             }
-            (λ i y off a. let g = r.each i y a in record {
-              about = g.about;
-              resting = g.resting;
-              seen = g.seen;
-              told = g.told;
-              turn_here = g.turn_here;
-              turn_else = g.turn_else;
-              claim_here = g.claim_here;
-              claim_else = g.claim_else;
-              late = g.late;
-              posted = g.posted;
-              alarmed = g.alarmed;
-              first_here = λ z. absurd (off (z ∙ sym zero_th));
-              first_else = g.first_else;
-            }) j x e);
+            (λ i y off a. let g = r.each i y a in
+            still_fits b b' i y g (starts_refl b.log) (g.turn_here, g.turn_else) (g.claim_here, g.claim_else) (omega arith) (inl refl) (λ z. absurd (off (z ∙ sym zero_th)))) j x e);
       }
 
   -- and so does the load after it, which shows that both passes had seen beginnings of one log
@@ -504,21 +531,6 @@ module _ (q : Question) where
         keeps,
         tt,
         stays s r id me.0 (heard_of me.0) (set s.words 0 n) at refl
-            record {
-              about = f.about;
-              resting = f.resting;
-              seen = l.2;
-              told = starts_none b.log;
-              turn_here = f.turn_here;
-              turn_else = f.turn_else;
-              claim_here = f.claim_here;
-              claim_else = f.claim_else;
-              late = f.late;
-              posted = f.posted;
-              alarmed = f.alarmed;
-              first_here = f.first_here;
-              first_else = f.first_else;
-            }
-            (put_word s r n),
+            (learns b id me.0 (longer me.0.seen me.0.told) [] me.0.late me.0.posted me.0.tries me.0.looks f l.2 (starts_none b.log) f.late f.posted) (put_word s r n),
         (refl, refl, l.0, l.1),
       )

@@ -116,6 +116,7 @@ pub record Fits (q : Question) (b : Board) (j : ℕ) (v : View) : Type 0 where
   pub claim_here : j ≡ b.claimer → v.claim ≡ claim_at b.stage
   pub claim_else : j ≢ b.claimer → v.claim ≡ Quiet
   pub late : v.late ≡ true → 0 < rank b.stage
+  pub outcome : (o : Outcome) → v.outcome ≡ Some o → (b.stage ≡ posted o) ⊎ ((b.stage ≡ put o) × (v.claim ≡ Put))
   pub posted : v.posted ≡ true → 4 ≤ rank b.stage
   pub alarmed : v.alarmed ≡ true → (4 ≤ rank b.stage) ⊎ (v.claim ≡ Put)
   pub first_here : j ≡ 0 → (v.first ≡ true) × (v.spent ≡ false) × (v.alarmed ≡ b.alarmed) × (v.splits ≡ b.splits) × (v.joins ≡ b.joins)

@@ -65,6 +65,8 @@ pub record KeepsTurns (q : Question) (s : Moment) : Type 0 where
   pub outcome_posted : slice_index s.words 1 ≡ 2 → EachLive s (λ j v. v.claim ≡ Quiet)
   -- an outcome that was put or posted is right
   pub outcome_right : (slice_index s.words 1 ≡ 2) ⊎ ((j : ℕ) × (v : View) × IsLive s j v × (v.claim ≡ Put)) → (o : Outcome) × HasRightOutcome q s o
+  -- an outcome that a pass says was posted by it, or by one that was joined into it, is the one in its slot
+  pub outcome_said : EachLive s (λ j v. (o : Outcome) → v.outcome ≡ Some o → get_elem? s.homes 1 ≡ some (some (Some (Said o))))
   -- exactly one pass is the first, the passes that it split off are those that it joined and the others that are there, and it alone may be alarmed
   pub one_first : OnlyOne s (λ v. v.first ≡ true)
   pub counted : EachLive s (λ i w. w.first ≡ true → live s.views + w.joins ≡ 1 + w.splits)

@@ -96,4 +96,4 @@ no_formula = record { problem = record { vars = 0; items = [] }; limits = record
 
 -- the view of a pass that was joined, whichever question it was of
 abbrev pub gone : View
-gone = record { question = question no_formula [] 0; seen = []; told = []; turn = Free; claim = Quiet; posted = false; late = false; alarmed = false; first = false; splits = 0; joins = 0; spent = true; tries = 0; looks = 0 }
+gone = record { question = question no_formula [] 0; seen = []; told = []; turn = Free; claim = Quiet; posted = false; outcome = None; late = false; alarmed = false; first = false; splits = 0; joins = 0; spent = true; tries = 0; looks = 0 }

@@ -1,5 +1,6 @@
 -- What contracts see of a pass, and what its view is after each call.
-use Rattle.std.specs.Prelude.{◌≡◌, ℕ, ◌+◌, ◌<◌, Bool, true, false, ◌||◌, List, [], All, length, nat_lt, if◌then◌else◌}
+use Rattle.std.specs.Prelude.{◌≡◌, ℕ, ◌+◌, ◌<◌, Bool, true, false, ◌||◌, List, [], All, length, nat_lt, if◌then◌else◌, Some, None}
+use Rattle.std.specs.Option.{option_or}
 use Rattle.atomic_table.specs.Seated.{TableId}
 use Rattle.sat_lits.specs.Formulas.{Bounded}
 use Rattle.sat_lits.specs.Logs.{IsLegalLog}
@@ -44,7 +45,7 @@ known_of table view = record { table = table; view = view }
 
 -- the first pass as the table is made: it has the turn, with no store in hand yet
 abbrev pub opening_view : Question → View
-opening_view q = record { question = q; seen = []; told = []; turn = Out []; claim = Quiet; posted = false; late = false; alarmed = false; first = true; splits = 0; joins = 0; spent = false; tries = 0; looks = 0 }
+opening_view q = record { question = q; seen = []; told = []; turn = Out []; claim = Quiet; posted = false; outcome = None; late = false; alarmed = false; first = true; splits = 0; joins = 0; spent = false; tries = 0; looks = 0 }
 
 -- the turn in this phase
 abbrev pub at_turn : Phase → View → View
@@ -76,11 +77,11 @@ divided v = record v { splits = v.splits + 1 }
 
 -- the pass that was split off: it has seen what the first one has seen
 abbrev pub newcomer : View → View
-newcomer v = record { question = v.question; seen = v.seen; told = []; turn = Free; claim = Quiet; posted = false; late = false; alarmed = false; first = false; splits = 0; joins = 0; spent = false; tries = 0; looks = 0 }
+newcomer v = record { question = v.question; seen = v.seen; told = []; turn = Free; claim = Quiet; posted = false; outcome = None; late = false; alarmed = false; first = false; splits = 0; joins = 0; spent = false; tries = 0; looks = 0 }
 
 -- the first pass with another one joined: it was told what that one had seen
 abbrev pub united : View → View → View
-united v u = record v { told = u.seen; posted = v.posted || u.posted; late = v.late || u.late; joins = v.joins + 1 }
+united v u = record v { told = u.seen; posted = v.posted || u.posted; outcome = option_or v.outcome u.outcome; late = v.late || u.late; joins = v.joins + 1 }
 
 -- the longer of two logs
 abbrev pub longer : List Shared → List Shared → List Shared
@@ -117,7 +118,7 @@ alarm_after Halted alarmed = true
 
 -- the outcome is in its slot
 abbrev pub with_outcome : Outcome → View → View
-with_outcome o v = record v { claim = Put; alarmed = alarm_after o v.alarmed }
+with_outcome o v = record v { claim = Put; outcome = Some o; alarmed = alarm_after o v.alarmed }
 
 -- the outcome is posted
 abbrev pub has_posted : View → View

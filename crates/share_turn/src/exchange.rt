@@ -174,8 +174,9 @@ impl Exchange {
         shared.load::<Hear>(&mut first.seat, 0);
     }
 
-    /// Ends the exchange. The store is there unless a pass that was not joined had the turn; the
-    /// outcome is there where one was posted.
+    /// Ends the exchange. The store is there unless a pass that was not joined had the turn. The
+    /// outcome is there where one was posted, and is the very one that the first pass, or a pass
+    /// that was joined into it, had posted.
     pub fn close(self, first: Pass) -> Closed
         requires own { first.table ≡ self }
         requires first { first.view.first ≡ true }
@@ -186,6 +187,7 @@ impl Exchange {
         ensures none { IfNone result.store (first.view.joins < first.view.splits) }
 
         ensures outcome { IfSome result.outcome (λ o. IsRightOutcome first.view.question first.view.alarmed o) }
+        ensures kept { IfSome first.view.outcome (λ o. result.outcome ≡ Some o) }
         ensures posted { first.view.posted ≡ true → IsSome result.outcome }
         ensures late { first.view.splits ≡ first.view.joins → first.view.late ≡ true → IsSome result.outcome }
     {

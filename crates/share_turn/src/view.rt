@@ -1,4 +1,5 @@
 // What a pass knows. Proofs alone see these types; no value of them is made.
+use crate::held::Outcome;
 use sat_lits::{Formula, List, Lit, Shared};
 use std::collections::LinkedList;
 
@@ -43,6 +44,8 @@ pub struct View {
     pub claim: Claim,
     /// It knows that an outcome was posted.
     pub posted: bool,
+    /// The outcome that it posted, or that a pass that was joined into it had posted.
+    pub outcome: Option<Outcome>,
     /// It came too late with an outcome.
     pub late: bool,
     /// It posted `Halted`.

@@ -51,31 +51,24 @@ fn sets_passed(order: &PickOrder, trail: &Trail) -> bool
     true
 }
 
-fn next(rt: &impl Abort, order: &mut PickOrder, trail: &Trail) -> Option<InLit> {
+fn next_candidate(rt: &impl Abort, order: &mut PickOrder, trail: &Trail) -> Option<InLit> {
     assert!(rt; sets_passed(order, trail));
-    order.next(trail)
+    order.next_candidate(trail)
 }
 
 #[test]
-fn two_variables_are_picked_until_both_are_set(rt: HostRuntime) -> Result<(), Fail> {
+fn two_variables_are_picked_whatever_the_trail(rt: HostRuntime) -> Result<(), Fail> {
     let mut order = PickOrder::new(rt.alloc());
     order.prepare(&[Inner(0), Inner(1)], false)?;
     let none = trail_of(&rt, rt.alloc(), &[])?;
     let one = trail_of(&rt, rt.alloc(), &[0])?;
     let both = trail_of(&rt, rt.alloc(), &[0, 1])?;
-    assert_eq!(rt; next(&rt, &mut order, &none), Some(literal(0, true)));
-    assert_eq!(rt; next(&rt, &mut order, &one), Some(literal(1, true)));
-    assert_eq!(rt; next(&rt, &mut order, &both), None);
-    order.put_back_unset(&none);
-    assert_eq!(rt;
-        next(&rt, &mut order, &none),
-        Some(literal(0, true)),
-        "0 is back"
-    );
-    assert_eq!(rt; next(&rt, &mut order, &both), None);
-    order.put_back(Inner(0));
-    order.put_back(Inner(1));
-    assert_eq!(rt; next(&rt, &mut order, &none), Some(literal(0, true)));
+    assert_eq!(rt; order.next(&none), Some(literal(0, true)));
+    assert_eq!(rt; order.next(&one), Some(literal(1, true)));
+    assert_eq!(rt; order.next(&both), None);
+    assert_eq!(rt; order.next(&none), Some(literal(0, true)), "0 is back");
+    assert_eq!(rt; order.next(&both), None);
+    assert_eq!(rt; order.next(&one), Some(literal(1, true)), "1 is back");
     Ok(())
 }
 
@@ -85,7 +78,10 @@ fn a_variable_is_passed_until_it_is_put_back(rt: HostRuntime) -> Result<(), Fail
     order.prepare(&[Inner(0), Inner(1), Inner(3)], true)?;
     let both = trail_of(&rt, rt.alloc(), &[0, 1])?;
     let one = trail_of(&rt, rt.alloc(), &[1])?;
-    assert_eq!(rt; next(&rt, &mut order, &both), Some(literal(3, false)));
+    assert_eq!(rt;
+        next_candidate(&rt, &mut order, &both),
+        Some(literal(3, false))
+    );
     let passed = [true, true, false, false, false];
     for (var, passed) in passed.iter().enumerate() {
         assert_eq!(rt; order.is_passed(Inner(var as u32)), *passed, "of {var}");
@@ -98,6 +94,11 @@ fn a_variable_is_passed_until_it_is_put_back(rt: HostRuntime) -> Result<(), Fail
     }
     order.put_back(Inner(1));
     assert!(rt; !order.is_passed(Inner(1)));
+    let none = trail_of(&rt, rt.alloc(), &[])?;
+    assert_eq!(rt;
+        next_candidate(&rt, &mut order, &none),
+        Some(literal(0, false))
+    );
     Ok(())
 }
 
@@ -108,24 +109,23 @@ fn a_bumped_variable_comes_first(rt: HostRuntime) -> Result<(), Fail> {
     let none = trail_of(&rt, rt.alloc(), &[])?;
     let seven = trail_of(&rt, rt.alloc(), &[7])?;
     assert_eq!(rt;
-        next(&rt, &mut order, &none),
+        order.next(&none),
         Some(literal(2, false)),
         "the least number"
     );
     bump(&rt, &mut order, 7);
     bump(&rt, &mut order, 7);
     bump(&rt, &mut order, 5);
-    assert_eq!(rt; next(&rt, &mut order, &none), Some(literal(7, false)));
-    assert_eq!(rt; next(&rt, &mut order, &seven), Some(literal(5, false)));
+    assert_eq!(rt; order.next(&none), Some(literal(7, false)));
+    assert_eq!(rt; order.next(&seven), Some(literal(5, false)));
     bump(&rt, &mut order, 7);
     assert_eq!(rt;
-        next(&rt, &mut order, &seven),
+        order.next(&seven),
         Some(literal(5, false)),
         "7 is still set"
     );
     keep_phase(&rt, &mut order, literal(7, true));
-    order.put_back(Inner(7));
-    assert_eq!(rt; next(&rt, &mut order, &none), Some(literal(7, true)));
+    assert_eq!(rt; order.next(&none), Some(literal(7, true)));
     Ok(())
 }
 
@@ -139,11 +139,11 @@ fn what_is_known_outlives_prepare(rt: HostRuntime) -> Result<(), Fail> {
     let none = trail_of(&rt, rt.alloc(), &[])?;
     let three = trail_of(&rt, rt.alloc(), &[3])?;
     let more = trail_of(&rt, rt.alloc(), &[0, 3])?;
-    assert_eq!(rt; next(&rt, &mut order, &none), Some(literal(3, false)));
-    assert_eq!(rt; next(&rt, &mut order, &three), Some(literal(0, true)));
-    assert_eq!(rt; next(&rt, &mut order, &more), Some(literal(4, true)));
+    assert_eq!(rt; order.next(&none), Some(literal(3, false)));
+    assert_eq!(rt; order.next(&three), Some(literal(0, true)));
+    assert_eq!(rt; order.next(&more), Some(literal(4, true)));
     order.prepare(&[Inner(4)], false)?;
-    assert_eq!(rt; next(&rt, &mut order, &none), Some(literal(4, true)));
+    assert_eq!(rt; order.next(&none), Some(literal(4, true)));
     assert_eq!(rt; order.preference_of(Inner(3)), None);
     Ok(())
 }

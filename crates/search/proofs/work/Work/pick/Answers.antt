@@ -24,9 +24,9 @@ decide-requires-clause-unset c = ap not c.in-Some.ensures.some.1.unset
 
 pub returns-in-Some-clause-at : goal.returns-in-Some-clause-at
 returns-in-Some-clause-at c =
-    subst (λ (t : Assignment). AtMove c.args.state.now (record c.args.self.now { trail = t; order = c.next.new.self })) (sym c.decide.ensures)
-    (picked c.args.state.now c.args.self.now c.in-Some.lit c.next.new.self c.requires.at c.requires.quiet (ap not c.in-Some.ensures.some.1.unset) (picked_among (goal.at.returns-in-Some-clause-at c).In-Some) c.requires.next
-    c.next.ensures.same c.next.ensures.passed)
+    subst (λ (t : Assignment). AtMove c.args.state.now (record c.args.self.now { trail = t; order = c.next_candidate.new.self })) (sym c.decide.ensures)
+    (picked c.args.state.now c.args.self.now c.in-Some.lit c.next_candidate.new.self c.requires.at c.requires.quiet (ap not c.in-Some.ensures.some.1.unset) (picked_among (goal.at.returns-in-Some-clause-at c).In-Some) c.requires.next
+    c.next_candidate.ensures.same c.next_candidate.ensures.passed)
 
 pub returns-in-Some-clause-rises : goal.returns-in-Some-clause-rises
 returns-in-Some-clause-rises c =

@@ -2,7 +2,7 @@ use Rattle.std.proofs.Common.{◌<◌, IfSome, IfNone, ap, sym, ◌∙◌, subst
 use lib.ListN.{get_elem?}
 use Rattle.share_store.specs.Log.{StartsWith}
 use Rattle.share_turn.specs.Views.{Known, IsLegalFor, IsRightOutcome}
-use Rattle.share_turn.proofs.Ends.{close_store, close_all, close_none, close_outcome, close_ended, ends_posted, ends_late}
+use Rattle.share_turn.proofs.Ends.{close_store, close_all, close_none, close_outcome, close_ended, close_kept, if_each, ends_posted, ends_late}
 use Rattle.share_turn.proofs.exchange.Exchange.close.Goals as goal
 
 pub returns-clause-store : goal.returns-clause-store
@@ -54,3 +54,13 @@ returns-clause-late c even h =
     let same = ap (λ k. k.view.splits) is ∙ even ∙ sym (ap (λ k. k.view.joins) is) in
     close_ended _ _ _ _ _ end first c.outcome_of.result c.word-stage.result c.take-said.result c.outcome_of.ensures.ended c.word-stage.ensures slot
     (ends_late _ _ _ _ _ end first same c.first.invariant.quiet (ap (λ k. k.view.late) is ∙ h) c.word-stage.result c.word-stage.ensures)
+
+pub returns-clause-kept : goal.returns-clause-kept
+returns-clause-kept c =
+    let is = c.first.view_is in
+    let first = ap (λ k. k.view.first) is ∙ c.requires.first in
+    let slot = ap (λ l. get_elem? l 1) (sym c.take-held.ensures.others.0) ∙ c.take-said.ensures.value in
+    if_each c.args.first.view.outcome _
+    (λ own has.
+    close_kept _ _ _ _ _ c.close_with-closed.ensures.values.2 first c.outcome_of.result c.word-stage.result c.take-said.result own c.outcome_of.ensures.ended c.word-stage.ensures slot c.first.invariant.quiet
+    (ap (λ k. k.view.outcome) is ∙ has))

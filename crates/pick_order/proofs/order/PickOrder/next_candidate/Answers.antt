@@ -5,8 +5,8 @@ use Rattle.pick_order.specs.Orders.{Order, HasPassedSet}
 use Rattle.pick_order.specs.Inside.{order_of}
 use Rattle.pick_order.specs.Queues.{IsQueued}
 use Rattle.pick_order.proofs.Queueing.{placed, queued_lost, passed_lost, none_left, picked, first_within}
-use Rattle.pick_order.proofs.order.PickOrder.next.Goals as goal
-use Rattle.pick_order.proofs.order.PickOrder.next.Goals.{After-pass_over}
+use Rattle.pick_order.proofs.order.PickOrder.next_candidate.Goals as goal
+use Rattle.pick_order.proofs.order.PickOrder.next_candidate.Goals.{After-pass_over}
 
 pub pass_over-requires : goal.pass_over-requires
 pass_over-requires c = placed c.self.inside.preferences.items c.self.inside.tournament c.self.invariant.queued
