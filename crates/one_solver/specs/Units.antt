@@ -1,16 +1,19 @@
 -- Clauses of one literal.
-use Rattle.std.specs.Prelude.{◌≡◌, Bool, true, false, not, List, [], ◌∷◌, Some}
+use Rattle.std.specs.Prelude.{◌≡◌, Bool, true, false, not, List, [], ◌∷◌, Some, option_map}
+use Rattle.std.specs.declared.option.Option.{Option}
 use Rattle.std.specs.List.{list_any, list_all}
-use Rattle.sat_lits.specs.InLits.{same_lit as same_in}
+use Rattle.sat_lits.specs.declared.literal.ClauseId.{ClauseId}
 use Rattle.sat_lits.specs.declared.literal.InLit.{InLit}
 use Rattle.sat_lits.specs.declared.literal.OwnLit.{OwnLit}
 use Rattle.rebuild_stack.specs.PutIn.{same_lit}
-use Rattle.clause_store.specs.Store.{Held}
+use Rattle.clause_store.specs.Store.{Store, Held, IsKept, clause_at, before}
 use Rattle.state_laws.specs.RootTableLaws.{entry_of}
 use Rattle.state_laws.specs.Kernel.{Kernel, state_of}
 use Rattle.private_state.specs.Removed.{fixed_value}
 use Rattle.one_solver.specs.declared.units.Length.{Length}
-use Rattle.one_solver.specs.declared.units.Length.TheVariants.{Empty, Single, Longer}
+use Rattle.one_solver.specs.declared.units.Length.TheVariants as length
+use Rattle.one_solver.specs.declared.units.Short.{Short}
+use Rattle.one_solver.specs.declared.units.Short.TheVariants.{Empty, Single, End}
 
 -- whether a clause has no literal
 abbrev pub is_empty : {L : Type 0} → List L → Bool
@@ -31,15 +34,25 @@ is_unit test (l ∷ k ∷ c) = false
 
 -- the length of a clause is told
 abbrev pub IsLength : List InLit → Length → Type 0
-IsLength lits Empty = lits ≡ []
-IsLength lits (Single l) = lits ≡ l ∷ []
-IsLength lits Longer = is_short lits ≡ false
+IsLength lits length.Empty = lits ≡ []
+IsLength lits (length.Single l) = lits ≡ l ∷ []
+IsLength lits length.Longer = is_short lits ≡ false
 
--- some clause has no literal, or this one alone, or each clause has more
-abbrev pub FindsShort : List Held → Length → Type 0
-FindsShort held Empty = list_any (λ h. is_empty h.lits) held ≡ true
-FindsShort held (Single l) = list_any (λ h. is_unit (same_in l) h.lits) held ≡ true
-FindsShort held Longer = list_all (λ h. not (is_short h.lits)) held ≡ true
+-- each of these clauses has more than one literal
+abbrev pub are_long : List Held → Bool
+are_long held = list_all (λ h. not (is_short h.lits)) held
+
+-- the clause of an id has this literal alone, and where the clauses before the start are long, so are those before it
+pub record FindsSingle (store : Store) (start : Option ClauseId) (id : ClauseId) (l : InLit) : Type 0 where
+  pub kept : IsKept store
+  pub lits : option_map (λ h. h.lits) (clause_at store.held id.0) ≡ Some (l ∷ [])
+  pub passed : are_long (before store.held start) ≡ true → are_long (before store.held (Some id)) ≡ true
+
+-- some clause has no literal, or this one alone, or each clause from the start on has more
+abbrev pub FindsShort : Store → Option ClauseId → Short → Type 0
+FindsShort store start Empty = list_any (λ h. is_empty h.lits) store.held ≡ true
+FindsShort store start (Single id l) = FindsSingle store start id l
+FindsShort store start End = are_long (before store.held start) ≡ true → are_long store.held ≡ true
 
 -- no hard clause has one literal or none
 abbrev pub HasNoUnits : Kernel → Type 0

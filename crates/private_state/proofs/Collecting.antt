@@ -1,5 +1,5 @@
 -- What a walk over a store collects.
-use Rattle.std.proofs.Common.{◌≡◌, ℕ, zero, suc, ◌+◌, ◌-◌, ◌<◌, ◌≤◌, ◌==◌, Bool, true, false, cond, not, ◌||◌, List, [], ◌∷◌, ◌++◌, Option, Some, None, refl, sym, ap, ap₂, ◌∙◌, arith, length, get_or, take, filter, map, option_map, option_to_list, IfSome, IsTrue, append-nil, length-append, eqb-true, eq-eqb, ne_eqb}
+use Rattle.std.proofs.Common.{◌≡◌, ℕ, zero, suc, ◌+◌, ◌<◌, ◌==◌, Bool, true, false, cond, not, ◌||◌, List, [], ◌∷◌, ◌++◌, Option, Some, None, refl, sym, ap, ap₂, ◌∙◌, arith, length, get_or, take, filter, map, option_map, option_to_list, IfSome, IsTrue, append-nil, eqb-true, eq-eqb, ne_eqb}
 use Rattle.std.proofs.lemmas.Bool.{and_parts, and_from, eqb-false}
 use Rattle.std.proofs.lemmas.List.{map-append}
 use Rattle.std.proofs.lemmas.List.Elements.{filter-append, filter_map-append}
@@ -16,8 +16,9 @@ use Rattle.rebuild_stack.specs.Roots.{root_passes}
 use Rattle.rebuild_stack.specs.PutIn.{put_in, is_clean, option_passes, option_clean}
 use Rattle.rebuild_stack.specs.PutInLaws.{put_in_passes, put_in_clean}
 use Rattle.rebuild_stack.specs.declared.entry.Root.{Root}
-use Rattle.clause_store.specs.Store.{Store, Held, clause_at, is_live, before, without}
+use Rattle.clause_store.specs.Store.{Store, Held, clause_at, is_live, without}
 use Rattle.var_maps.specs.Maps.{Maps, Matched, inner_at, owner_at}
+use Rattle.indexed_store.specs.Occurrences.{holds, occurrences, clauses_at}
 use Rattle.state_laws.specs.Held.{OwnClause, own_or, own_clause, own_of, has_inner, touches, strip, in_own, relisted, put_each, is_ready, numbers, without_ids}
 use Rattle.state_laws.specs.HeldLaws.{found, all_found, without_more}
 use Rattle.state_laws.specs.Resolution.{mentions, is_of}
@@ -168,27 +169,72 @@ pub fresh_distinct : (learned : Bool) (stored : Option (List InLit)) → IfSome 
 fresh_distinct learned None d = refl
 fresh_distinct learned (Some c) d = and_from _ _ d refl
 
-before_short : (hs : List Held) (o : Option ClauseId) → length (before hs o) ≤ length hs
-before_short [] o = omega arith
-before_short (h ∷ hs) None = omega arith
-before_short (h ∷ hs) (Some i) = go (h.id == i.0) (before_short hs (Some i))
-  where
-    go : (b : Bool) → length (before hs (Some i)) ≤ length hs → length (cond b [] (h ∷ before hs (Some i))) ≤ suc (length hs)
-    go true l = omega arith
-    go false l = omega arith
-
--- fewer clauses are left to a walk after each step
-pub shorter : (hs : List Held) (at : Option ClauseId) (id : ClauseId) (next : Option ClauseId) → at ≡ Some id → is_live hs id.0 ≡ true → before hs next ≡ before hs (Some id) ++ option_to_list (clause_at hs id.0)
-    → length hs - length (before hs next) < length hs - length (before hs at)
-shorter hs at id next e l s =
-    let f : (h : Held) × (clause_at hs id.0 ≡ Some h) = found (clause_at hs id.0) l in
-    let a : length (before hs next) ≡ length (before hs (Some id)) + 1 = ap length (s ∙ ap (λ z. before hs (Some id) ++ option_to_list z) f.1) ∙ length-append (before hs (Some id)) (f.0 ∷ []) in
-    let b : length (before hs at) ≡ length (before hs (Some id)) = ap (λ z. length (before hs z)) e in
-    let d : length (before hs next) ≤ length hs = before_short hs next in
-    omega arith
-
 -- one more outer variable is read
 pub outer_value_step : (values : ℕ → Bool) (vs : List Own) (k : ℕ) (v : Own) (olds news : List Bool) → k < length vs → slice_get vs k ≡ Some v → news ≡ olds ++ values v.0 ∷ [] → olds ≡ map (λ w. values w.0) (take k vs) → news ≡ map (λ w. values w.0) (take (k + 1) vs)
 outer_value_step values vs k v olds news l s n o =
     n ∙ (ap₂ {C = List Bool} (λ (x : List Bool) (y : Own). x ++ values y.0 ∷ []) o (sym (got vs k v v s))
     ∙ (sym (map-append (λ (w : Own). values w.0) (take k vs) (get_or vs k v ∷ [])) ∙ ap (map (λ (w : Own). values w.0)) (sym (taken_at vs k v l))))
+
+-- what is collected is that of the clauses that hold the variable alone
+pub collected_same : (m : Maps) (r : OwnLit → Root) (v : ℕ) (xs ys : List Held) (to : Changes) → filter (touches m v) xs ≡ filter (touches m v) ys → Collects m r v xs to → Collects m r v ys to
+collected_same m r v xs ys to e c =
+    record {
+      collected = record {
+        doomed = c.collected.doomed ∙ ap (map (λ (h : Held). h.id)) e;
+        become = c.collected.become ∙ ap (λ z. put_each r (map (λ k. in_own m (strip k)) z)) e;
+      };
+      distinct = c.distinct;
+    }
+
+-- a clause holds an own variable where it holds its inner number
+pub touches_holds : (m : Maps) (v : ℕ) (i : Inner) → Matched m → inner_at m v ≡ Some i → (h : Held) → touches m v h ≡ holds i.0 h
+touches_holds m v i d e h = touches_read m v i h h.lits (holds i.0 h) d e refl refl
+
+filter_twice : {X : Type 0} (p q : X → Bool) → ((x : X) → p x ≡ q x) → (xs : List X) → filter p (filter q xs) ≡ filter p xs
+filter_twice p q h [] = refl
+filter_twice p q h (x ∷ xs) = go (q x) (h x) (filter_twice p q h xs)
+  where
+    go : (b : Bool) → p x ≡ b → filter p (filter q xs) ≡ filter p xs → filter p (cond b (x ∷ filter q xs) (filter q xs)) ≡ cond (p x) (x ∷ filter p xs) (filter p xs)
+    go true e r = rw e (ap (λ z. x ∷ z) r)
+    go false e r = rw e r
+
+-- what was collected of the clauses in a variable's list is what is collected of all
+pub collected_all : (m : Maps) (r : OwnLit → Root) (v : ℕ) (i : Inner) (hs : List Held) (ids : List ClauseId) (to : Changes) → Matched m → inner_at m v ≡ Some i → clauses_at hs ids ≡ occurrences i.0 hs
+    → Collects m r v (clauses_at hs ids) to → Collects m r v hs to
+collected_all m r v i hs ids to d e f c = collected_same m r v (clauses_at hs ids) hs to (ap (filter (touches m v)) f ∙ filter_twice (touches m v) (holds i.0) (touches_holds m v i d e) hs) c
+
+-- one id more of a list is walked
+pub clauses_at-more : (hs : List Held) (ids : List ClauseId) (k : ℕ) (d : ClauseId) → k < length ids → clauses_at hs (take (k + 1) ids) ≡ clauses_at hs (take k ids) ++ option_to_list (clause_at hs (get_or ids k d).0)
+clauses_at-more hs ids k d l =
+    ap (clauses_at hs) (taken_at ids k d l)
+    ∙ (filter_map-append (λ (i : ClauseId). clause_at hs i.0) (take k ids) (get_or ids k d ∷ []) ∙ ap (λ z. clauses_at hs (take k ids) ++ z) (last (clause_at hs (get_or ids k d).0)))
+  where
+    last : (o : Option Held) → cons_option o [] ≡ option_to_list o
+    last None = refl
+    last (Some h) = refl
+
+holds_all : (v : ℕ) (hs : List Held) → list_all (holds v) (occurrences v hs) ≡ true
+holds_all v [] = refl
+holds_all v (h ∷ hs) = go (holds v h) refl (holds_all v hs)
+  where
+    go : (b : Bool) → holds v h ≡ b → list_all (holds v) (occurrences v hs) ≡ true → list_all (holds v) (cond b (h ∷ occurrences v hs) (occurrences v hs)) ≡ true
+    go true e r = and_from _ _ e r
+    go false e r = r
+
+named_passes : (p : Held → Bool) (hs : List Held) (ids : List ClauseId) (k : ℕ) (d : ClauseId) (h : Held) → list_all p (clauses_at hs ids) ≡ true → k < length ids → clause_at hs (get_or ids k d).0 ≡ Some h → p h ≡ true
+named_passes p hs [] k d h a l e = absurd (omega arith)
+named_passes p hs (x ∷ ids) zero d h a l e = (and_parts (p h) (list_all p (clauses_at hs ids)) (sym (ap (λ o. list_all p (cons_option o (clauses_at hs ids))) e) ∙ a)).0
+named_passes p hs (x ∷ ids) (suc k) d h a l e = named_passes p hs ids k d h (rest (clause_at hs x.0) a) (omega arith) e
+  where
+    rest : (o : Option Held) → list_all p (cons_option o (clauses_at hs ids)) ≡ true → list_all p (clauses_at hs ids) ≡ true
+    rest None q = q
+    rest (Some j) q = (and_parts (p j) (list_all p (clauses_at hs ids)) q).1
+
+-- a clause of a variable's list holds the variable
+pub listed_touches : (m : Maps) (v : ℕ) (i : Inner) (hs : List Held) (ids : List ClauseId) (k : ℕ) (d : ClauseId) → Matched m → inner_at m v ≡ Some i → clauses_at hs ids ≡ occurrences i.0 hs → k < length ids
+    → IfSome (clause_at hs (get_or ids k d).0) (λ h. IsTrue (touches m v h))
+listed_touches m v i hs ids k d q e f l = go (clause_at hs (get_or ids k d).0) refl
+  where
+    go : (o : Option Held) → clause_at hs (get_or ids k d).0 ≡ o → IfSome o (λ h. IsTrue (touches m v h))
+    go None g = tt
+    go (Some h) g = touches_holds m v i q e h ∙ named_passes (holds i.0) hs ids k d h (ap (list_all (holds i.0)) f ∙ holds_all i.0 hs) l g

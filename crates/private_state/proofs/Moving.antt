@@ -1,5 +1,5 @@
 -- What a kernel that stands lets its moves do.
-use Rattle.std.proofs.Common.{◌≡◌, ℕ, ◌+◌, ◌<◌, ◌≤◌, true, false, cond, List, ◌++◌, Option, Some, None, refl, sym, ap, subst, ◌∙◌, arith, length, map, is_some, option_map, option_to_list, take, drop, append-nil, drop_of_length-le, take_all}
+use Rattle.std.proofs.Common.{◌≡◌, ℕ, ◌+◌, ◌<◌, ◌≤◌, true, false, cond, List, ◌++◌, Option, Some, None, refl, sym, ap, ap₂, subst, ◌∙◌, arith, length, map, is_some, option_map, option_to_list, take, drop, append-nil, drop_of_length-le, take_all}
 use Rattle.std.specs.Prelude.{if◌then◌else◌, is_ok, Result, Ok}
 use Rattle.std.specs.List.{list_all, list_any}
 use Rattle.sat_lits.specs.ListLaws.{all_mono}
@@ -8,11 +8,12 @@ use Rattle.sat_lits.specs.declared.literal.InLit.{InLit}
 use Rattle.rebuild_stack.specs.Entries.{names, times_named}
 use Rattle.rebuild_stack.specs.OrderLaws.{unnamed}
 use Rattle.rebuild_stack.specs.declared.entry.Entry.{Entry}
-use Rattle.clause_store.specs.Store.{Store}
+use Rattle.clause_store.specs.Store.{Store, hard_of, learned_of}
 use Rattle.var_maps.specs.Maps.{Maps, plain}
 use Rattle.state_laws.specs.declared.definition.Definition.{Definition}
-use Rattle.state_laws.specs.State.{is_active}
-use Rattle.state_laws.specs.Held.{own_clause, has_inner, in_own, hard_clause}
+use Rattle.state_laws.specs.State.{State, is_active}
+use Rattle.state_laws.specs.Stands.{Stands}
+use Rattle.state_laws.specs.Held.{own_clause, own_clauses, has_inner, in_own, hard_clause}
 use Rattle.state_laws.specs.Kernel.{Kernel, Standing, state_of, plain_kernel}
 use Rattle.state_laws.specs.PlaceLaws.{one_if, active_in, once_named}
 use Rattle.state_laws.specs.ViewLaws.{get_is_some}
@@ -50,6 +51,14 @@ active_there k v h a =
 -- the store and the stack are as before
 pub rolled_kernel : (k : Kernel) (s : Store) (entries : List Entry) → s.held ≡ k.store.held → entries ≡ k.stack → plain_kernel (record k { store = s; stack = entries }) ≡ plain_kernel k
 rolled_kernel k s entries e f = rw (e, f) refl
+
+-- clauses that are the same under other ids are the same in own literals
+pub renumbered : (k : Kernel) (s : Store) → hard_of s.held ≡ hard_of k.store.held → learned_of s.held ≡ learned_of k.store.held → state_of (record k { store = s }) ≡ state_of k
+renumbered k s h l = ap₂ {C = State} (λ (x y : List (List InLit)). record (state_of k) { hard = own_clauses k.maps x; learned = own_clauses k.maps y }) h l
+
+-- and the kernel stands
+pub renumbered-Standing : (k : Kernel) (s : Store) → hard_of s.held ≡ hard_of k.store.held → learned_of s.held ≡ learned_of k.store.held → Standing k → Standing (record k { store = s })
+renumbered-Standing k s h l t = record { stands = subst (λ (z : State). Stands z) (sym (renumbered k s h l)) t.stands; outers = t.outers; private = t.private }
 
 -- active literals have inner numbers
 pub active_inner : (k : Kernel) (c : List OwnLit) → list_all (λ l. is_active (state_of k) l.var.0) c ≡ true → list_all (has_inner k.maps) c ≡ true

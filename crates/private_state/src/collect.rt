@@ -6,14 +6,15 @@ ghost use Rattle.rebuild_stack.specs.Entries.{named};
 ghost use Rattle.rebuild_stack.specs.PutIn.{put_in};
 ghost use Rattle.clause_store.specs.Store.{IsKept, clause_at, is_live};
 ghost use Rattle.var_maps.specs.Maps.{Matched, inner_at};
-ghost use Rattle.state_laws.specs.Held.{has_inner, own_clause, is_ready, numbers, without_ids, Adds};
+ghost use Rattle.state_laws.specs.Held.{has_inner, own_clause, is_ready, touches, numbers, without_ids, Adds};
 ghost use Rattle.private_state.specs.Fresh.{in_clauses, are_distinct, Collects, Listed};
 
-use crate::own_lits::{in_lits, mentions, own_lits};
+use crate::own_lits::{in_lits, own_lits};
 use crate::put_in::{put_in_entry, var_of};
 use clause_store::ClauseStore;
+use indexed_store::IndexedStore;
 use rebuild_stack::Entry;
-use sat_lits::{ClauseId, InLit, Inner, List, NoMemory};
+use sat_lits::{ClauseId, InLit, List, NoMemory};
 use std::alloc::Global;
 use var_maps::VarMaps;
 
@@ -32,11 +33,11 @@ pub(crate) struct Changes {
 }
 
 /// Drops the clauses of ids, as far as they are live.
-pub(crate) fn drop_all(store: &mut ClauseStore, ids: &[ClauseId])
+pub(crate) fn drop_all(store: &mut IndexedStore, ids: &[ClauseId])
     ensures { store.new ≡ without_ids (numbers ids.now) store.old }
 {
     for id in ids {
-        if store.is_live(*id) {
+        if store.store().is_live(*id) {
             store.drop_clause(*id);
         }
     }
@@ -44,7 +45,7 @@ pub(crate) fn drop_all(store: &mut ClauseStore, ids: &[ClauseId])
 
 /// Adds the clauses in order, and keeps their ids, as far as memory goes.
 fn add_some(
-    store: &mut ClauseStore,
+    store: &mut IndexedStore,
     fresh: &[Fresh],
     ids: &mut Vec<ClauseId>,
 ) -> Result<(), NoMemory>
@@ -64,7 +65,7 @@ fn add_some(
 /// Adds all the clauses, and tells their ids, or none of them.
 pub(crate) fn add_all(
     alloc: Global,
-    store: &mut ClauseStore,
+    store: &mut IndexedStore,
     fresh: &[Fresh],
 ) -> Result<Vec<ClauseId>, NoMemory>
     requires kept { IsKept store.old }
@@ -99,30 +100,46 @@ fn put_in_stored(
     Ok(Some(stored))
 }
 
-/// What putting an entry in makes of one clause.
-fn collect_one(
+/// What putting an entry in makes of the clause of a live id, which holds the entry's variable.
+fn collect_live(
     alloc: Global,
     maps: &VarMaps,
     store: &ClauseStore,
     entry: &Entry,
-    var: Inner,
     id: ClauseId,
     to: &mut Changes,
 ) -> Result<(), NoMemory>
     requires live { IsTrue (is_live store.now.held id.0) }
-    requires matched { Matched maps.now }
-    requires var { inner_at maps.now (named entry.now) ≡ Some var }
+    requires touched { IfSome (clause_at store.now.held id.0) (λ clause. IsTrue (touches maps.now (named entry.now) clause)) }
     requires ready { list_all (is_ready maps.now (root (entry.now ∷ [])) (named entry.now)) store.now.held ≡ true }
     ensures { IfOk result (λ _. (held : Listed) → Collects maps.now (root (entry.now ∷ [])) (named entry.now) held to.old
         → Collects maps.now (root (entry.now ∷ [])) (named entry.now) (held ++ option_to_list (clause_at store.now.held id.0)) to.new) }
 {
     let lits = store.lits(id);
-    if mentions(lits, var) {
-        if let Some(lits) = put_in_stored(alloc, maps, entry, lits)? {
-            let learned = store.is_learned(id);
-            to.fresh.push(Fresh { learned, lits })?;
-        }
-        to.doomed.push(id)?;
+    if let Some(lits) = put_in_stored(alloc, maps, entry, lits)? {
+        let learned = store.is_learned(id);
+        to.fresh.push(Fresh { learned, lits })?;
+    }
+    to.doomed.push(id)?;
+    Ok(())
+}
+
+/// What putting an entry in makes of the clause of an id, if the id is live.
+fn collect_one(
+    alloc: Global,
+    maps: &VarMaps,
+    store: &ClauseStore,
+    entry: &Entry,
+    id: ClauseId,
+    to: &mut Changes,
+) -> Result<(), NoMemory>
+    requires touched { IfSome (clause_at store.now.held id.0) (λ clause. IsTrue (touches maps.now (named entry.now) clause)) }
+    requires ready { list_all (is_ready maps.now (root (entry.now ∷ [])) (named entry.now)) store.now.held ≡ true }
+    ensures { IfOk result (λ _. (held : Listed) → Collects maps.now (root (entry.now ∷ [])) (named entry.now) held to.old
+        → Collects maps.now (root (entry.now ∷ [])) (named entry.now) (held ++ option_to_list (clause_at store.now.held id.0)) to.new) }
+{
+    if store.is_live(id) {
+        collect_live(alloc, maps, store, entry, id, to)?;
     }
     Ok(())
 }
@@ -131,7 +148,7 @@ fn collect_one(
 pub(crate) fn collect(
     alloc: Global,
     maps: &VarMaps,
-    store: &ClauseStore,
+    store: &IndexedStore,
     entry: &Entry,
 ) -> Result<Changes, NoMemory>
     requires active { IsSome (inner_at maps.now (named entry.now)) }
@@ -141,14 +158,13 @@ pub(crate) fn collect(
     ensures kept { IsKept store.now }
 {
     let var = maps.to_inner(var_of(entry)).unwrap();
+    let ids = store.occurrences(var);
     let mut to = Changes {
         doomed: Vec::new(alloc),
         fresh: Vec::new(alloc),
     };
-    let mut at = store.first();
-    'walk: while let Some(id) = at {
-        collect_one(alloc, maps, store, entry, var, id, &mut to)?;
-        at = store.after(id);
+    'walk: for id in ids {
+        collect_one(alloc, maps, store.store(), entry, *id, &mut to)?;
     }
     Ok(to)
 }

@@ -10,7 +10,7 @@ ghost use Rattle.private_state.specs.Fresh.{hard_in};
 use crate::own_lits::{in_lits, outer_lit};
 use crate::put_in::put_in;
 use crate::removed::RemovedVars;
-use clause_store::ClauseStore;
+use indexed_store::IndexedStore;
 use sat_lits::{InLit, List, Lit, NoMemory};
 use std::alloc::Global;
 use var_maps::VarMaps;
@@ -42,7 +42,7 @@ pub(crate) fn own_form(
 
 /// Adds a hard clause, if there is one.
 pub(crate) fn add_hard(
-    store: &mut ClauseStore,
+    store: &mut IndexedStore,
     clause: &Option<List<InLit>>,
 ) -> Result<(), NoMemory>
     requires { IfSome clause.now (λ lits. IsTrue (is_distinct lits)) }

@@ -1,8 +1,8 @@
-ghost use Rattle.std.specs.Prelude.{◌≡◌, ◌==◌, ◌<◌, true, length, IfOk};
-ghost use Rattle.std.specs.List.{list_all, list_any};
+ghost use Rattle.std.specs.Prelude.{◌≡◌, ◌<◌, true, length, IfOk};
+ghost use Rattle.std.specs.List.{list_all};
 ghost use Rattle.state_laws.specs.Held.{own_of, own_clause, own_outer, has_inner};
 
-use sat_lits::{InLit, Inner, List, Lit, NoMemory, Own, OwnLit};
+use sat_lits::{InLit, List, Lit, NoMemory, Own, OwnLit};
 use std::alloc::Global;
 use var_maps::VarMaps;
 
@@ -33,13 +33,6 @@ pub(crate) fn own_lits(
         own.push(own_lit(maps, *lit))?;
     }
     Ok(own)
-}
-
-/// Whether a stored clause holds a variable, by its inner number.
-pub(crate) fn mentions(lits: &[InLit], var: Inner) -> bool
-    ensures { result ≡ list_any (λ l. l.var.0 == var.0) lits.now }
-{
-    lits.iter().any(|lit| lit.var == var)
 }
 
 /// A literal of an active variable as it is stored.

@@ -4,7 +4,7 @@ ghost use Rattle.sat_lits.specs.Truth.{clauses_value};
 ghost use Rattle.sat_lits.specs.Meaning.{IsModel};
 ghost use Rattle.rebuild_stack.specs.Entries.{named, is_block_of};
 ghost use Rattle.rebuild_stack.specs.declared.entry.Entry.TheVariants.{Fix};
-ghost use Rattle.clause_store.specs.Store.{hard_of, without};
+ghost use Rattle.clause_store.specs.Store.{contents, hard_of, without};
 ghost use Rattle.var_maps.specs.Maps.{plain, retired};
 ghost use Rattle.state_laws.specs.State.{is_active, outer_count, problem_of};
 ghost use Rattle.state_laws.specs.Conditions.{IsContradicted, EntryFollows, Pushable, Takable, Learnable};
@@ -22,6 +22,7 @@ use crate::put_in::var_of;
 use crate::removed::{RemovedVars, Status};
 use crate::values::{outer_values, own_values};
 use clause_store::ClauseStore;
+use indexed_store::IndexedStore;
 use rebuild_stack::{Entry, RebuildStack};
 use sat_lits::{ClauseId, Item, List, Lit, NoMemory, Own, OwnLit, Shared};
 use state_laws::Definition;
@@ -40,7 +41,7 @@ pub struct PrivateState {
     entries: Vec<Shared>,
     definitions: Vec<Option<Definition>>,
     maps: VarMaps,
-    store: ClauseStore,
+    store: IndexedStore,
     removed: RemovedVars,
     okay: bool,
 }
@@ -68,7 +69,7 @@ impl PrivateState {
             entries: Vec::new(alloc),
             definitions: Vec::new(alloc),
             maps: VarMaps::new(alloc),
-            store: ClauseStore::new(alloc),
+            store: IndexedStore::new(alloc),
             removed: RemovedVars::new(alloc),
             okay: true,
         }
@@ -134,7 +135,7 @@ impl PrivateState {
         ensures value { result.now ≡ self.now.store }
         ensures standing { Standing self.now }
     {
-        &self.store
+        self.store.store()
     }
 
     /// The variables that left the clauses, and how their values are rebuilt.
@@ -260,6 +261,17 @@ impl PrivateState {
         drop_all(&mut self.store, &changes.doomed);
         self.maps.retire(var);
         Ok(())
+    }
+
+    /// Gives every clause its id anew and frees the places of dropped ones. The clauses stay, in
+    /// order. An earlier id may be given again, to another clause too, so no caller may keep one.
+    /// It takes no memory.
+    pub fn compact(&mut self)
+        ensures same { self.new ≡ record self.old { store = self.new.store } }
+        ensures clauses { contents self.new.store.held ≡ contents self.old.store.held }
+        ensures state { state_of self.new ≡ state_of self.old }
+    {
+        self.store.compact();
     }
 
     /// Makes the state not okay. The hard and the learned clauses have no solution.

@@ -175,6 +175,7 @@ fn a_learned_clause_is_dropped(rt: HostRuntime) -> Result<(), Fail> {
     assert_eq!(rt; store.is_learned(id), true);
     state.drop_learned(id);
     assert_eq!(rt; state.clauses().is_live(id), false);
+    state.compact();
     assert_eq!(rt; first_clause(&rt, &state), Some((1, Some(Own(0)), true)));
     Ok(())
 }

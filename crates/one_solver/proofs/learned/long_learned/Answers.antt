@@ -1,7 +1,7 @@
 use Rattle.std.proofs.Common.{IfSome, IsTrue, Option, subst}
 use Rattle.sat_lits.specs.declared.literal.ClauseId.{ClauseId}
 use Rattle.clause_store.specs.Store.{is_live}
-use Rattle.private_state.proofs.Collecting.{shorter}
+use Rattle.clause_store.specs.Laws.{shorter}
 use Rattle.one_solver.proofs.learned.long_learned.Goals as goal
 
 pub walk-smaller : goal.walk-smaller

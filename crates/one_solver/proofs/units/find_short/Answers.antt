@@ -1,11 +1,10 @@
-use Rattle.std.proofs.Common.{◌≡◌, ◌∙◌, ap, not, true, List, subst, Option, IfSome, IsTrue}
-use Rattle.std.specs.List.{list_all}
+use Rattle.std.proofs.Common.{◌≡◌, ◌∙◌, ap, true, List, [], ◌∷◌, subst, Option, IfSome, IsTrue}
 use Rattle.sat_lits.specs.declared.literal.ClauseId.{ClauseId}
 use Rattle.clause_store.specs.Store.{Held, is_live, before}
-use Rattle.clause_store.specs.Laws.{before-none}
-use Rattle.private_state.proofs.Collecting.{shorter}
-use Rattle.one_solver.specs.Units.{is_short}
-use Rattle.one_solver.proofs.Walking.{live_clause, short_found}
+use Rattle.clause_store.specs.Laws.{before-none, shorter}
+use Rattle.one_solver.specs.Units.{IsLength, are_long}
+use Rattle.one_solver.specs.declared.units.Length.{Length}
+use Rattle.one_solver.proofs.Walking.{live_clause, empty_found, lits_at, long_passed}
 use Rattle.one_solver.proofs.units.find_short.Goals as goal
 use Rattle.one_solver.proofs.units.find_short.Goals.{After-length_of}
 
@@ -16,12 +15,27 @@ pub walk-smaller : goal.walk-smaller
 walk-smaller c =
     shorter c.args.store.now.held c.walk.at c.in-Some.id c.after-at.result c.in-Some.is (live ((goal.at.walk-smaller c).After-length_of)) c.after-at.ensures.step
 
-pub returns-in_default-length_of : goal.returns-in_default-length_of
-returns-in_default-length_of c =
-    let (h, e) = live_clause c.args.store.now.held c.in-Some.id.0 (live ((goal.at.returns-in_default-length_of c).After-length_of)) in
-    short_found c.args.store.now.held c.in-Some.id.0 h c.length_of.result e (c.length_of.ensures h e) c.in_default-length_of.not-Longer
+pub returns-in-Empty : goal.returns-in-Empty
+returns-in-Empty c =
+    let (h, e) = live_clause c.args.store.now.held c.in-Some.id.0 (live ((goal.at.returns-in-Empty c).After-length_of)) in
+    empty_found c.args.store.now.held c.in-Some.id.0 h e (subst (λ (l : Length). IsLength h.lits l) c.in-Empty.is (c.length_of.ensures.value h e))
+
+pub returns-in-Single : goal.returns-in-Single
+returns-in-Single c =
+    let (h, e) = live_clause c.args.store.now.held c.in-Some.id.0 (live ((goal.at.returns-in-Single c).After-length_of)) in
+    record {
+      kept = c.length_of.ensures.kept;
+      lits = lits_at c.args.store.now.held c.in-Some.id.0 h (c.in-Single.lit ∷ []) e (subst (λ (l : Length). IsLength h.lits l) c.in-Single.is (c.length_of.ensures.value h e));
+      passed = λ p. subst (λ (o : Option ClauseId). are_long (before c.args.store.now.held o) ≡ true) c.in-Some.is (c.walk.invariant.passed p);
+    }
+
+pub walk-preserved : goal.walk-preserved
+walk-preserved c =
+    record {
+      live = c.after-at.ensures.live;
+      passed = λ p. long_passed c.args.store.now.held c.walk.at c.in-Some.id c.after-at.result c.in-Some.is (live ((goal.at.walk-preserved c).After-length_of)) c.after-at.ensures.step
+          (λ h e. subst (λ (l : Length). IsLength h.lits l) c.in-Longer.is (c.length_of.ensures.value h e)) (c.walk.invariant.passed p);
+    }
 
 pub returns : goal.returns
-returns c =
-    subst (λ (hs : List Held). list_all (λ h. not (is_short h.lits)) hs ≡ true)
-    (ap (before c.args.store.now.held) c.in_default.is ∙ before-none c.args.store.now.held) c.walk.invariant.passed
+returns c = λ p. subst (λ (hs : List Held). are_long hs ≡ true) (ap (before c.args.store.now.held) c.in_default.is ∙ before-none c.args.store.now.held) (c.walk.invariant.passed p)

@@ -1,19 +1,29 @@
-use Rattle.std.proofs.Common.{◌∙◌, ap, List, [], ◌∷◌, subst, Option, IfSome, IsTrue}
+use Rattle.std.proofs.Common.{◌≡◌, subst, [], ◌∷◌, Some, List, take_all, rules}
+use Rattle.sat_lits.specs.declared.literal.ClauseId.{ClauseId}
 use Rattle.rebuild_stack.specs.Roots.{root}
 use Rattle.rebuild_stack.specs.Entries.{named}
-use Rattle.sat_lits.specs.declared.literal.ClauseId.{ClauseId}
-use Rattle.clause_store.specs.Store.{Held, is_live, before}
-use Rattle.clause_store.specs.Laws.{before-none}
+use Rattle.indexed_store.specs.Occurrences.{clauses_at}
+use Rattle.var_maps.specs.Maps.{inner_at}
 use Rattle.private_state.specs.Fresh.{Collects}
-use Rattle.private_state.proofs.Collecting.{shorter}
+use Rattle.private_state.proofs.Collecting.{collected_all, clauses_at-more, listed_touches}
 use Rattle.private_state.proofs.collect.collect.Goals as goal
 
-pub walk-smaller : goal.walk-smaller
-walk-smaller c =
-    shorter c.args.store.now.held c.walk.at c.in-Some.id c.after-at.result c.in-Some.is
-    (subst (λ (o : Option ClauseId). IfSome o (λ id. IsTrue (is_live c.args.store.now.held id.0))) c.in-Some.is c.walk.invariant.live) c.after-at.ensures.step
+abbrev first : ClauseId
+first = record { 0 = 0 }
+
+pub collect_one-requires-clause-touched : goal.collect_one-requires-clause-touched
+collect_one-requires-clause-touched c =
+    let e : inner_at c.args.maps.now (named c.args.entry.now) ≡ Some c.unwrap-var.result = search rules in
+    rw c.store.ensures.value
+    (listed_touches c.args.maps.now (named c.args.entry.now) c.unwrap-var.result c.args.store.now.held c.occurrences-ids.result.now c.walk.id-index first c.to_inner.ensures.matched e c.occurrences-ids.ensures.value c.walk-test.true)
+
+pub walk-preserved : goal.walk-preserved
+walk-preserved c =
+    rw (clauses_at-more c.args.store.now.held c.occurrences-ids.result.now c.walk.id-index first c.walk-test.true, ← c.store.ensures.value)
+    (c.in_ok-collect_one.ensures _ (rw c.store.ensures.value c.walk.invariant))
 
 pub returns-clause-collected : goal.returns-clause-collected
 returns-clause-collected c =
-    subst (λ (hs : List Held). Collects c.args.maps.now (root (c.args.entry.now ∷ [])) (named c.args.entry.now) hs c.walk.to)
-    (ap (before c.args.store.now.held) c.in_default.is ∙ before-none c.args.store.now.held) c.walk.invariant.collected
+    let e : inner_at c.args.maps.now (named c.args.entry.now) ≡ Some c.unwrap-var.result = search rules in
+    collected_all c.args.maps.now (root (c.args.entry.now ∷ [])) (named c.args.entry.now) c.unwrap-var.result c.args.store.now.held c.occurrences-ids.result.now c.walk.to c.to_inner.ensures.matched e c.occurrences-ids.ensures.value
+    (subst (λ (ids : List ClauseId). Collects c.args.maps.now (root (c.args.entry.now ∷ [])) (named c.args.entry.now) (clauses_at c.args.store.now.held ids) c.walk.to) (take_all c.walk.id-index c.occurrences-ids.result.now c.walk-test.false) c.walk.invariant)

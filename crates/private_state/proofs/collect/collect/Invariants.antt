@@ -1,16 +1,9 @@
-use Rattle.std.proofs.Common.{◌-◌, length, [], ◌∷◌, IfSome, IsTrue}
+use Rattle.std.proofs.Common.{take, [], ◌∷◌}
 use Rattle.rebuild_stack.specs.Roots.{root}
 use Rattle.rebuild_stack.specs.Entries.{named}
-use Rattle.clause_store.specs.Store.{is_live, before}
+use Rattle.indexed_store.specs.Occurrences.{clauses_at}
 use Rattle.private_state.specs.Fresh.{Collects}
 use Rattle.private_state.proofs.collect.collect.Given as goal
 
 abbrev pub invariant-walk : goal.invariant-walk
-invariant-walk l =
-    record {
-      live : IfSome l.at (λ id. IsTrue (is_live l.store.held id.0));
-      collected : Collects l.maps (root (l.entry ∷ [])) (named l.entry) (before l.store.held l.at) l.to;
-    }
-
-abbrev pub decreases-walk : goal.decreases-walk
-decreases-walk l = length l.store.held - length (before l.store.held l.at)
+invariant-walk l = Collects l.maps (root (l.entry ∷ [])) (named l.entry) (clauses_at l.store.held (take l.id-index l.ids)) l.to

@@ -24,5 +24,5 @@ loop-id-preserved c =
     ap (dropped (get_or c.args.ids.now c.loop-id.id-index d)) c.loop-id.invariant ∙ sym (dropping c.args.store.now c.args.ids.now c.loop-id.id-index d c.loop-id-test.true) in
     elim c.if-is_live.branch [
       | then-is_live w ↦ w.store-is ∙ (w.drop_clause.ensures.rest ∙ step)
-      | else-is_live w ↦ w.store-is ∙ (stays c.loop-id.store (get_or c.args.ids.now c.loop-id.id-index d) (sym c.is_live.ensures.value ∙ w.if-is_live.false) ∙ step)
+      | else-is_live w ↦ w.store-is ∙ (stays c.loop-id.store (get_or c.args.ids.now c.loop-id.id-index d) (ap (λ (z : Store). is_live z.held (get_or c.args.ids.now c.loop-id.id-index d).0) (sym c.store.ensures.value) ∙ (sym c.is_live.ensures.value ∙ w.if-is_live.false)) ∙ step)
     ]

@@ -2,9 +2,8 @@ use Rattle.std.proofs.Common.{◌≡◌, ◌∙◌, ap, List, true, subst, Optio
 use Rattle.sat_lits.specs.Truth.{clauses_value}
 use Rattle.sat_lits.specs.declared.literal.ClauseId.{ClauseId}
 use Rattle.clause_store.specs.Store.{Held, is_live, before, hard_of}
-use Rattle.clause_store.specs.Laws.{before-none}
+use Rattle.clause_store.specs.Laws.{before-none, shorter}
 use Rattle.state_laws.specs.Held.{in_value}
-use Rattle.private_state.proofs.Collecting.{shorter}
 use Rattle.private_state.proofs.tests.satisfies.Goals as goal
 
 pub walk-smaller : goal.walk-smaller

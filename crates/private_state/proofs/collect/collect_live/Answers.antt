@@ -8,21 +8,21 @@ use Rattle.clause_store.specs.Store.{Held, clause_at}
 use Rattle.state_laws.specs.Held.{own_clause, has_inner, touches}
 use Rattle.state_laws.specs.HeldLaws.{id_found}
 use Rattle.private_state.specs.declared.collect.Changes.{Changes}
-use Rattle.private_state.proofs.Collecting.{read_held, read_learned, ready_clause, touches_read, collected_step, collected_skip, fresh_of, fresh_put, fresh_distinct}
-use Rattle.private_state.proofs.collect.collect_one.Goals.{in-Some+in_ok-push, in_default}
-use Rattle.private_state.proofs.collect.collect_one.Goals as goal
+use Rattle.private_state.proofs.Collecting.{read_held, read_learned, ready_clause, collected_step, fresh_of, fresh_put, fresh_distinct}
+use Rattle.private_state.proofs.collect.collect_live.Goals.{in-Some+in_ok-push, in_default}
+use Rattle.private_state.proofs.collect.collect_live.Goals as goal
 
 pub put_in_stored-requires : goal.put_in_stored-requires
 put_in_stored-requires c =
     let h : (h : Held) × ((clause_at c.args.store.now.held c.args.id.0 ≡ Some h) × (h.lits ≡ c.lits-lits.result.now)) = read_held c.args.store.now.held c.args.id.0 c.lits-lits.result.now c.requires.live c.lits-lits.ensures.value in
-    let t : touches c.args.maps.now (named c.args.entry.now) h.0 ≡ true = touches_read c.args.maps.now (named c.args.entry.now) c.args.var h.0 c.lits-lits.result.now c.mentions.result c.requires.matched c.requires.var h.1.1 c.mentions.ensures ∙ c.if-mentions.true in
+    let t : touches c.args.maps.now (named c.args.entry.now) h.0 ≡ true = subst (λ (o : Option Held). IfSome o (λ k. IsTrue (touches c.args.maps.now (named c.args.entry.now) k))) h.1.0 c.requires.touched in
     subst (λ (z : List InLit). list_all (λ l. root_passes (has_inner c.args.maps.now) (root (c.args.entry.now ∷ []) l)) (own_clause c.args.maps.now z) ≡ true) h.1.1
     (ready_clause c.args.maps.now (root (c.args.entry.now ∷ [])) (named c.args.entry.now) c.args.store.now.held c.args.id.0 h.0 h.1.0 c.requires.ready t)
 
-pub returns-in_ok-push-2 : goal.returns-in_ok-push-2
-returns-in_ok-push-2 c = λ hs d.
+pub returns : goal.returns
+returns c = λ hs d.
     let h : (h : Held) × ((clause_at c.args.store.now.held c.args.id.0 ≡ Some h) × (h.lits ≡ c.lits-lits.result.now)) = read_held c.args.store.now.held c.args.id.0 c.lits-lits.result.now c.requires.live c.lits-lits.ensures.value in
-    let t : touches c.args.maps.now (named c.args.entry.now) h.0 ≡ true = touches_read c.args.maps.now (named c.args.entry.now) c.args.var h.0 c.lits-lits.result.now c.mentions.result c.requires.matched c.requires.var h.1.1 c.mentions.ensures ∙ c.if-mentions.true in
+    let t : touches c.args.maps.now (named c.args.entry.now) h.0 ≡ true = subst (λ (o : Option Held). IfSome o (λ k. IsTrue (touches c.args.maps.now (named c.args.entry.now) k))) h.1.0 c.requires.touched in
     rw h.1.0
     (elim c.match-branch-2.branch [
       | in-Some+in_ok-push w ↦
@@ -42,10 +42,3 @@ returns-in_ok-push-2 c = λ hs d.
           (c.in_ok-push-2.ensures.items ∙ ap (λ (z : Changes). z.doomed.items ++ c.args.id ∷ []) w.to-is)
           (id_found c.args.store.now.held c.args.id.0 h.0 h.1.0) d
     ])
-
-pub returns-else-mentions : goal.returns-else-mentions
-returns-else-mentions c = λ hs d.
-    let h : (h : Held) × ((clause_at c.args.store.now.held c.args.id.0 ≡ Some h) × (h.lits ≡ c.lits-lits.result.now)) = read_held c.args.store.now.held c.args.id.0 c.lits-lits.result.now c.requires.live c.lits-lits.ensures.value in
-    rw h.1.0
-    (collected_skip c.args.maps.now (root (c.args.entry.now ∷ [])) (named c.args.entry.now) hs h.0 c.args.to.now
-    (touches_read c.args.maps.now (named c.args.entry.now) c.args.var h.0 c.lits-lits.result.now c.mentions.result c.requires.matched c.requires.var h.1.1 c.mentions.ensures ∙ c.if-mentions.false) d)

@@ -1,0 +1,189 @@
+-- What the lists name after a clause was added or dropped.
+use Rattle.std.proofs.Common.{◌≡◌, ℕ, ◌<◌, ◌≤◌, ◌==◌, Bool, true, false, cond, not, ltb, List, [], ◌∷◌, ◌++◌, Option, Some, None, refl, sym, ap, ap₂, ◌∙◌, arith, filter, eqb-true, eq-eqb, ne_eqb, lt-ltb, ltb-true, append-nil}
+use Rattle.std.proofs.lemmas.Bool.{and_parts, and_from}
+use Rattle.std.proofs.lemmas.List.Elements.{filter-append, filter_map-append}
+use Rattle.std.proofs.lemmas.List.Folds.{find-append}
+use Rattle.std.specs.List.{list_all, list_any, cons_option}
+use Rattle.std.specs.Option.{option_or, is_some}
+use Rattle.sat_lits.specs.InLits.{is_distinct}
+use Rattle.sat_lits.specs.ListLaws.{all_mono, all_push}
+use Rattle.sat_lits.specs.declared.literal.ClauseId.{ClauseId}
+use Rattle.sat_lits.specs.declared.literal.InLit.{InLit}
+use Rattle.clause_store.specs.Store.{Store, Held, IsKept, held_as, clause_at, is_live, rising, without}
+use Rattle.indexed_store.specs.Lists.{added, are_below, is_in}
+use Rattle.indexed_store.specs.Occurrences.{clauses_at, holds, occurrences}
+
+-- a clause, unless it has this id
+abbrev pub other_than : ℕ → Option Held → Option Held
+other_than i None = None
+other_than i (Some h) = cond (not (h.id == i)) (Some h) None
+
+other_self : (hs : List Held) (i : ℕ) → other_than i (clause_at hs i) ≡ None
+other_self [] i = refl
+other_self (h ∷ hs) i = go (h.id == i) refl (other_self hs i)
+  where
+    go : (b : Bool) → (h.id == i) ≡ b → other_than i (clause_at hs i) ≡ None → other_than i (cond b (Some h) (clause_at hs i)) ≡ None
+    go true e r = rw e refl
+    go false e r = r
+
+-- the clause of an id where that of another was dropped
+clause_at-without : (hs : List Held) (i j : ℕ) → clause_at (without i hs) j ≡ other_than i (clause_at hs j)
+clause_at-without [] i j = refl
+clause_at-without (h ∷ hs) i j = go (h.id == i) (h.id == j) refl refl (clause_at-without hs i j)
+  where
+    go : (a b : Bool) → (h.id == i) ≡ a → (h.id == j) ≡ b → clause_at (without i hs) j ≡ other_than i (clause_at hs j) → clause_at (cond (not a) (h ∷ without i hs) (without i hs)) j ≡ other_than i (cond b (Some h) (clause_at hs j))
+    go true true e f r =
+        let k : i ≡ j = sym (eqb-true _ _ e) ∙ eqb-true _ _ f in
+        rw e (r ∙ (ap (λ n. other_than i (clause_at hs n)) (sym k) ∙ other_self hs i))
+    go true false e f r = r
+    go false true e f r = rw (f, e) refl
+    go false false e f r = rw f r
+
+-- what a list names where a clause was dropped
+clauses_at-without : (hs : List Held) (i : ℕ) (ids : List ClauseId) → clauses_at (without i hs) ids ≡ without i (clauses_at hs ids)
+clauses_at-without hs i [] = refl
+clauses_at-without hs i (x ∷ ids) = ap₂ (λ o z. cons_option o z) (clause_at-without hs i x.0) (clauses_at-without hs i ids) ∙ go (clause_at hs x.0)
+  where
+    go : (o : Option Held) → cons_option (other_than i o) (without i (clauses_at hs ids)) ≡ without i (cons_option o (clauses_at hs ids))
+    go None = refl
+    go (Some h) = each (h.id == i) refl
+      where
+        each : (b : Bool) → (h.id == i) ≡ b → cons_option (cond (not (h.id == i)) (Some h) None) (without i (clauses_at hs ids)) ≡ cond (not (h.id == i)) (h ∷ without i (clauses_at hs ids)) (without i (clauses_at hs ids))
+        each true e = rw e refl
+        each false e = rw e refl
+
+occurrences-without : (v i : ℕ) (hs : List Held) → occurrences v (without i hs) ≡ without i (occurrences v hs)
+occurrences-without v i [] = refl
+occurrences-without v i (h ∷ hs) = go (h.id == i) (holds v h) refl refl (occurrences-without v i hs)
+  where
+    go : (a b : Bool) → (h.id == i) ≡ a → holds v h ≡ b → occurrences v (without i hs) ≡ without i (occurrences v hs) → occurrences v (cond (not a) (h ∷ without i hs) (without i hs)) ≡ without i (cond b (h ∷ occurrences v hs) (occurrences v hs))
+    go true true e f r = rw e r
+    go true false e f r = r
+    go false true e f r = rw (f, e) (ap (λ z. h ∷ z) r)
+    go false false e f r = rw f r
+
+-- the lists still name the clauses of each variable
+pub found_without : (hs : List Held) (i v : ℕ) (ids : List ClauseId) → clauses_at hs ids ≡ occurrences v hs → clauses_at (without i hs) ids ≡ occurrences v (without i hs)
+found_without hs i v ids e = clauses_at-without hs i ids ∙ (ap (without i) e ∙ sym (occurrences-without v i hs))
+
+-- what all clauses pass, those that are left pass
+pub below_without : (p : Held → Bool) (i : ℕ) (hs : List Held) → list_all p hs ≡ true → list_all p (without i hs) ≡ true
+below_without p i [] e = refl
+below_without p i (h ∷ hs) e =
+    let a : (p h ≡ true) × (list_all p hs ≡ true) = and_parts _ _ e in
+    go (h.id == i) a.0 (below_without p i hs a.1)
+  where
+    go : (b : Bool) → p h ≡ true → list_all p (without i hs) ≡ true → list_all p (cond (not b) (h ∷ without i hs) (without i hs)) ≡ true
+    go true q r = r
+    go false q r = and_from _ _ q r
+
+apart : (x n g : ℕ) → ltb x g ≡ true → g ≤ n → (n == x) ≡ false
+apart x n g l m = ne_eqb n x (λ e. absurd (let k : x < g = ltb-true _ _ l in omega arith))
+
+apart' : (x n g : ℕ) → ltb x g ≡ true → g ≤ n → (x == n) ≡ false
+apart' x n g l m = ne_eqb x n (λ e. absurd (let k : x < g = ltb-true _ _ l in omega arith))
+
+-- no clause has a new id
+new_at : (hs : List Held) (g n : ℕ) → list_all (λ h. ltb h.id g) hs ≡ true → g ≤ n → clause_at hs n ≡ None
+new_at [] g n e l = refl
+new_at (h ∷ hs) g n e l =
+    let a : (ltb h.id g ≡ true) × (list_all (λ k. ltb k.id g) hs ≡ true) = and_parts _ _ e in
+    rw (apart' h.id n g a.0 l) (new_at hs g n a.1 l)
+
+or_none : (o : Option Held) → option_or o None ≡ o
+or_none None = refl
+or_none (Some h) = refl
+
+-- a list of old ids names the same clauses where one more was added
+clauses_at-more : (hs : List Held) (h : Held) (g : ℕ) (ids : List ClauseId) → are_below g ids ≡ true → g ≤ h.id → clauses_at (hs ++ h ∷ []) ids ≡ clauses_at hs ids
+clauses_at-more hs h g [] e l = refl
+clauses_at-more hs h g (x ∷ ids) e l =
+    let a : (ltb x.0 g ≡ true) × (are_below g ids ≡ true) = and_parts _ _ e in
+    ap₂ (λ o z. cons_option o z)
+    (find-append (λ (k : Held). k.id == x.0) hs (h ∷ []) ∙ (ap (λ b. option_or (clause_at hs x.0) (cond b (Some h) None)) (apart x.0 h.id g a.0 l) ∙ or_none (clause_at hs x.0)))
+    (clauses_at-more hs h g ids a.1 l)
+
+-- the new id names the new clause
+clauses_at-new : (hs : List Held) (h : Held) (g : ℕ) (id : ClauseId) → list_all (λ k. ltb k.id g) hs ≡ true → g ≤ id.0 → h.id ≡ id.0 → clauses_at (hs ++ h ∷ []) (id ∷ []) ≡ h ∷ []
+clauses_at-new hs h g id e l i =
+    ap (λ o. cons_option o [])
+    (find-append (λ (k : Held). k.id == id.0) hs (h ∷ []) ∙ ap₂ (λ o b. option_or o (cond b (Some h) None)) (new_at hs g id.0 e l) (eq-eqb h.id id.0 i))
+
+-- the lists name the clauses of each variable where one more was added
+pub found_more : (hs news : List Held) (g v : ℕ) (id : ClauseId) (learned : Bool) (lits : List InLit) (olds ids : List ClauseId) → list_all (λ k. ltb k.id g) hs ≡ true → are_below g olds ≡ true → g ≤ id.0
+    → news ≡ hs ++ held_as id.0 learned lits ∷ [] → ids ≡ olds ++ added v lits id → clauses_at hs olds ≡ occurrences v hs → clauses_at news ids ≡ occurrences v news
+found_more hs news g v id learned lits olds ids e o l n i f =
+    ap₂ (λ z w. clauses_at z w) n i
+    ∙ (filter_map-append (λ (x : ClauseId). clause_at (hs ++ h ∷ []) x.0) olds (added v lits id)
+    ∙ (ap₂ {C = List Held} ◌++◌ (clauses_at-more hs h g olds o l ∙ f) (last (list_any (is_in v) lits))
+    ∙ (sym (filter-append (holds v) hs (h ∷ [])) ∙ ap (occurrences v) (sym n))))
+  where
+    h : Held
+    h = held_as id.0 learned lits
+
+    last : (b : Bool) → clauses_at (hs ++ h ∷ []) (cond b (id ∷ []) []) ≡ cond b (h ∷ []) []
+    last true = clauses_at-new hs h g id e l refl
+    last false = refl
+
+le_mono : (x g n : ℕ) → g ≤ n → ltb x g ≡ true → ltb x n ≡ true
+le_mono x g n l e = let k : x < g = ltb-true _ _ e in lt-ltb x n (omega arith)
+
+-- ids that are below a number are below a greater one
+pub held_below : (hs news : List Held) (g n : ℕ) (h : Held) → list_all (λ k. ltb k.id g) hs ≡ true → g ≤ h.id → h.id < n → news ≡ hs ++ h ∷ [] → list_all (λ k. ltb k.id n) news ≡ true
+held_below hs news g n h e l m q =
+    ap (list_all (λ (k : Held). ltb k.id n)) q
+    ∙ all_push (λ (k : Held). ltb k.id n) hs h (all_mono (λ (k : Held). ltb k.id g) (λ k. ltb k.id n) (λ k. le_mono k.id g n (omega arith)) hs e) (lt-ltb h.id n m)
+
+pub ids_below : (olds ids : List ClauseId) (g n v : ℕ) (id : ClauseId) (lits : List InLit) → are_below g olds ≡ true → g ≤ id.0 → id.0 < n → ids ≡ olds ++ added v lits id → are_below n ids ≡ true
+ids_below olds ids g n v id lits e l m q = ap (are_below n) q ∙ go (list_any (is_in v) lits)
+  where
+    more : are_below n olds ≡ true
+    more = all_mono (λ (k : ClauseId). ltb k.0 g) (λ k. ltb k.0 n) (λ k. le_mono k.0 g n (omega arith)) olds e
+
+    go : (b : Bool) → are_below n (olds ++ cond b (id ∷ []) []) ≡ true
+    go true = all_push (λ (k : ClauseId). ltb k.0 n) olds id more (lt-ltb id.0 n m)
+    go false = ap (are_below n) (append-nil olds) ∙ more
+
+-- ids that are below a number are below one that is not less
+pub below_more : (g n : ℕ) (ids : List ClauseId) → g ≤ n → are_below g ids ≡ true → are_below n ids ≡ true
+below_more g n ids l e = all_mono (λ (k : ClauseId). ltb k.0 g) (λ k. ltb k.0 n) (λ k. le_mono k.0 g n l) ids e
+
+-- the ids that are not live name nothing
+pub clauses_at-live : (hs : List Held) (ids : List ClauseId) → clauses_at hs (filter (λ id. is_live hs id.0) ids) ≡ clauses_at hs ids
+clauses_at-live hs [] = refl
+clauses_at-live hs (x ∷ ids) = go (clause_at hs x.0) refl (clauses_at-live hs ids)
+  where
+    go : (o : Option Held) → clause_at hs x.0 ≡ o → clauses_at hs (filter (λ id. is_live hs id.0) ids) ≡ clauses_at hs ids
+        → clauses_at hs (cond (is_some o) (x ∷ filter (λ id. is_live hs id.0) ids) (filter (λ id. is_live hs id.0) ids)) ≡ cons_option o (clauses_at hs ids)
+    go None e r = r
+    go (Some h) e r = ap₂ (λ o z. cons_option o z) e r
+
+-- what all ids pass, those that are left pass
+pub below_filter : (test : ClauseId → Bool) (g : ℕ) (ids : List ClauseId) → are_below g ids ≡ true → are_below g (filter test ids) ≡ true
+below_filter test g [] e = refl
+below_filter test g (x ∷ ids) e =
+    let a : (ltb x.0 g ≡ true) × (are_below g ids ≡ true) = and_parts _ _ e in
+    go (test x) a.0 (below_filter test g ids a.1)
+  where
+    go : (b : Bool) → ltb x.0 g ≡ true → are_below g (filter test ids) ≡ true → are_below g (cond b (x ∷ filter test ids) (filter test ids)) ≡ true
+    go true q r = and_from _ _ q r
+    go false q r = r
+
+rising-without : (i : ℕ) (hs : List Held) → rising hs ≡ true → rising (without i hs) ≡ true
+rising-without i [] e = refl
+rising-without i (h ∷ hs) e =
+    let p : (list_all (λ k. ltb h.id k.id) hs ≡ true) × (rising hs ≡ true) = and_parts _ _ e in
+    go (h.id == i) p.0 (rising-without i hs p.1)
+  where
+    go : (b : Bool) → list_all (λ k. ltb h.id k.id) hs ≡ true → rising (without i hs) ≡ true → rising (cond (not b) (h ∷ without i hs) (without i hs)) ≡ true
+    go true a r = r
+    go false a r = and_from _ _ (below_without (λ (k : Held). ltb h.id k.id) i hs a) r
+
+-- a store with a clause less keeps what every store does
+pub kept_without : (s : Store) (i : ℕ) → IsKept s → IsKept (record s { held = without i s.held })
+kept_without s i k =
+    record {
+      below = below_without (λ (h : Held). ltb h.id s.given) i s.held k.below;
+      rises = rising-without i s.held k.rises;
+      distinct = below_without (λ (h : Held). is_distinct h.lits) i s.held k.distinct;
+    }

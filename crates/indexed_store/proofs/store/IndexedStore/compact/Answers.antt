@@ -1,0 +1,6 @@
+use Rattle.indexed_store.proofs.Filling.{places_enough}
+use Rattle.indexed_store.proofs.store.IndexedStore.compact.Goals as goal
+
+pub fill-requires-clause-places : goal.fill-requires-clause-places
+fill-requires-clause-places c = λ v.
+    places_enough c.self.inside.store.held c.compact.new.self.held c.clear_each.new.lists.items c.self.inside.lists.items v (c.self.invariant.found v) c.compact.ensures.clauses (c.clear_each.ensures.places v)
