@@ -1,6 +1,6 @@
 -- The clauses at places, as a list of held clauses.
-use Rattle.std.proofs.Common.{◌≡◌, ℕ, zero, suc, ◌+◌, ◌<◌, ◌≤◌, Bool, true, false, not, eqb, ltb, List, [], ◌∷◌, ◌++◌, length, get_or, set, take, ap₂, filter, Option, Some, None, option_map, option_to_list, refl, sym, ap, ◌∙◌, arith, append-nil, ne_eqb, eq-eqb, lt-ltb, ltb-true, cond, subst}
-use Rattle.std.proofs.lemmas.Bool.{and_from, and_parts, false≢true, ltb-false}
+use Rattle.std.proofs.Common.{◌≡◌, ℕ, zero, suc, ◌+◌, ◌<◌, ◌≤◌, Bool, true, false, eqb, ltb, List, [], ◌∷◌, ◌++◌, length, get_or, set, take, ap₂, filter, Option, Some, None, option_map, option_to_list, refl, sym, ap, ◌∙◌, arith, append-nil, ne_eqb, eq-eqb, lt-ltb, ltb-true, subst, nat_le}
+use Rattle.std.proofs.lemmas.Bool.{and_from, false≢true, ltb-false, le-leb, lt-leb}
 use Rattle.std.proofs.Math.ListN.{length-set}
 use Rattle.std.specs.List.{list_all}
 use Rattle.std.specs.Option.{is_some}
@@ -196,3 +196,33 @@ pub stored_walk_on : (ps : List (Option Clause)) (s : Store) (id : ClauseId) →
 stored_walk_on ps s id e live =
     walk_on id.0 ps (ap (λ (z : Store). is_live z.held id.0) e ∙ live)
     ∙ ap (λ (z : Store). before z.held (Some id) ++ option_to_list (clause_at z.held id.0)) e
+
+-- no clause has an id up to one below the first place
+upto-below : (n id : ℕ) (ps : List (Option Clause)) → id < n → filter (λ h. nat_le h.id id) (held_from n ps) ≡ []
+upto-below n id [] l = refl
+upto-below n id (None ∷ ps) l = upto-below (suc n) id ps (omega arith)
+upto-below n id (Some c ∷ ps) l = rw (lt-leb n id l) (upto-below (suc n) id ps (omega arith))
+
+-- the clauses up to an id stand at the places up to it
+upto-place : (n j id : ℕ) (ps : List (Option Clause)) → id ≡ n + j → filter (λ h. nat_le h.id id) (held_from n ps) ≡ held_from n (take (suc j) ps)
+upto-place n j id [] i = refl
+upto-place n zero id (None ∷ ps) i = upto-below (suc n) id ps (omega arith)
+upto-place n zero id (Some c ∷ ps) i = rw (le-leb n id (omega arith)) (ap (λ (z : List Held). seen n c ∷ z) (upto-below (suc n) id ps (omega arith)))
+upto-place n (suc j) id (None ∷ ps) i = upto-place (suc n) j id ps (omega arith)
+upto-place n (suc j) id (Some c ∷ ps) i = rw (le-leb n id (omega arith)) (ap (λ (z : List Held). seen n c ∷ z) (upto-place (suc n) j id ps (omega arith)))
+
+-- the clauses up to an id of a store are those at the places before the next one
+pub stored_upto : (ps : List (Option Clause)) (s : Store) (id : ℕ) → stored ps ≡ s → held_from 0 (take (id + 1) ps) ≡ filter (λ h. nat_le h.id id) s.held
+stored_upto ps s id e =
+    let k : id + 1 ≡ suc id = omega arith in
+    rw k (sym (upto-place 0 id id ps (omega arith)) ∙ ap (λ (z : Store). filter (λ h. nat_le h.id id) z.held) e)
+
+-- no id is past the last place
+upto-all : (n id : ℕ) (ps : List (Option Clause)) → n + length ps ≤ suc id → filter (λ h. nat_le h.id id) (held_from n ps) ≡ held_from n ps
+upto-all n id [] l = refl
+upto-all n id (None ∷ ps) l = upto-all (suc n) id ps (omega arith)
+upto-all n id (Some c ∷ ps) l = rw (le-leb n id (omega arith)) (ap (λ (z : List Held). seen n c ∷ z) (upto-all (suc n) id ps (omega arith)))
+
+pub stored_all : (ps : List (Option Clause)) (s : Store) (id : ℕ) → stored ps ≡ s → length ps ≤ id → s.held ≡ filter (λ h. nat_le h.id id) s.held
+stored_all ps s id e l =
+    sym (ap (λ (z : Store). z.held) e) ∙ (sym (upto-all 0 id ps (omega arith)) ∙ ap (λ (z : Store). filter (λ h. nat_le h.id id) z.held) e)

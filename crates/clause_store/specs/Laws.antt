@@ -1,7 +1,10 @@
 -- Facts on held clauses that every crate above may cite.
-use Rattle.std.proofs.Common.{◌≡◌, None, Bool, true, false, cond, not, List, [], ◌∷◌, map, filter, refl, sym, ap, ◌∙◌}
+use Rattle.std.proofs.Common.{◌≡◌, ◌==◌, ◌+◌, ◌-◌, ◌<◌, ◌≤◌, suc, Option, Some, None, Bool, true, false, cond, not, List, [], ◌∷◌, ◌++◌, length, map, filter, option_to_list, refl, sym, ap, ◌∙◌, arith, length-append}
+use Rattle.std.proofs.lemmas.Bool.{false≢true}
+use Rattle.std.specs.Option.{is_some}
 use Rattle.sat_lits.specs.declared.literal.InLit.{InLit}
-use Rattle.clause_store.specs.Store.{Held, before, contents, hard_of, learned_of}
+use Rattle.sat_lits.specs.declared.literal.ClauseId.{ClauseId}
+use Rattle.clause_store.specs.Store.{Held, clause_at, is_live, before, contents, hard_of, learned_of}
 
 -- the literals of the clauses that pass a test of their list
 picked : (Bool → Bool) → List (Bool × List InLit) → List (List InLit)
@@ -29,3 +32,27 @@ learned_of-contents xs ys e = picked-contents (λ b. b) xs ∙ (ap (picked (λ b
 pub before-none : (held : List Held) → before held None ≡ held
 before-none [] = refl
 before-none (h ∷ rest) = refl
+
+-- no more clauses stand before a place than there are
+before_short : (held : List Held) (at : Option ClauseId) → length (before held at) ≤ length held
+before_short [] at = omega arith
+before_short (h ∷ held) None = omega arith
+before_short (h ∷ held) (Some id) = go (h.id == id.0) (before_short held (Some id))
+  where
+    go : (b : Bool) → length (before held (Some id)) ≤ length held → length (cond b [] (h ∷ before held (Some id))) ≤ suc (length held)
+    go true l = omega arith
+    go false l = omega arith
+
+-- a walk over the held clauses has fewer of them left after each step
+pub shorter : (held : List Held) (at : Option ClauseId) (id : ClauseId) (next : Option ClauseId) → at ≡ Some id → is_live held id.0 ≡ true
+    → before held next ≡ before held (Some id) ++ option_to_list (clause_at held id.0)
+    → length held - length (before held next) < length held - length (before held at)
+shorter held at id next e l s =
+    let a : length (before held next) ≡ length (before held (Some id)) + 1 = ap length s ∙ (length-append (before held (Some id)) (option_to_list (clause_at held id.0)) ∙ ap (λ n. length (before held (Some id)) + n) (one (clause_at held id.0) l)) in
+    let b : length (before held at) ≡ length (before held (Some id)) = ap (λ z. length (before held z)) e in
+    let d : length (before held next) ≤ length held = before_short held next in
+    omega arith
+  where
+    one : (found : Option Held) → is_some found ≡ true → length (option_to_list found) ≡ 1
+    one None f = absurd (false≢true f)
+    one (Some h) f = refl

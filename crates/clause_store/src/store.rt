@@ -1,4 +1,4 @@
-ghost use Rattle.std.specs.Prelude.{◌≡◌, ◌<◌, ◌≤◌, ◌∷◌, ◌++◌, [], Some, length, take, map, option_map, option_to_list, IfOk, OnErr, IfSome, IsTrue};
+ghost use Rattle.std.specs.Prelude.{◌≡◌, ◌<◌, ◌≤◌, ◌∷◌, ◌++◌, [], Some, length, take, map, filter, nat_le, option_map, option_to_list, IfOk, OnErr, IfSome, IsTrue};
 ghost use Rattle.sat_lits.specs.InLits.{is_distinct};
 ghost use Rattle.clause_store.specs.Store.{IsKept, held_as, clause_at, is_live, before, without, contents, hard_of, learned_of};
 ghost use Rattle.clause_store.specs.Places.{held_from};
@@ -52,6 +52,8 @@ impl ClauseStore {
         ensures fresh { IfOk result (λ id. self.old.given ≤ id.0) }
         ensures given { IfOk result (λ id. id.0 < self.new.given) }
         ensures err { OnErr result (self.new ≡ self.old) }
+        ensures kept { IsKept self.old }
+        ensures stays_kept { IsKept self.new }
     {
         let lits = List::from_slice(*self.places.allocator(), lits)?;
         let id = ClauseId(self.places.len() as u64);
@@ -112,6 +114,21 @@ impl ClauseStore {
         ensures kept { IsKept self.now }
     {
         first_from(&self.places, id.0 as usize + 1)
+    }
+
+    /// The id of the first clause whose id is above the given one, or None where there is none. The
+    /// given id may be that of a dropped clause, or of none.
+    pub fn next(&self, id: ClauseId) -> Option<ClauseId>
+        ensures live { IfSome result (λ next. IsTrue (is_live self.now.held next.0)) }
+        ensures step { before self.now.held result ≡ filter (λ clause. nat_le clause.id id.0) self.now.held }
+        ensures kept { IsKept self.now }
+    {
+        let place = id.0 as usize;
+        if place < self.places.len() {
+            first_from(&self.places, place + 1)
+        } else {
+            None
+        }
     }
 
     /// Gives every clause its id anew and frees the places of dropped ones. The clauses stay, in
@@ -185,6 +202,8 @@ mod tests {
             assert_eq!(rt; store.is_live(id), is_live, "at {id:?}");
         }
         assert_ne!(rt; fourth, second);
+        assert_eq!(rt; store.next(second), Some(third));
+        assert_eq!(rt; store.next(fourth), None);
 
         store.compact();
         let mut next = store.first();
