@@ -1,3 +1,15 @@
 pub mod Looking
 pub mod Walking
-pub mod Rounding
+pub mod Room
+pub mod Chaining
+pub mod Spelling
+pub mod Moving
+pub mod Opening
+pub mod Settling
+pub mod Turning
+pub mod Passing
+pub mod Starting
+pub mod Fining
+pub mod Quieting
+pub mod Freshing
+pub mod Keeping

@@ -1,7 +1,13 @@
 pub mod Units
 pub mod Reasons
 pub mod Watching
+pub mod Words
 pub mod Inside
-pub mod Looks
 pub mod Laws
 pub mod TakenLaws
+pub mod Chains
+pub mod Watched
+pub mod Visits
+pub mod Walks
+pub mod Starts
+pub mod Fine

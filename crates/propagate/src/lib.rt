@@ -4,7 +4,7 @@
 //! has to be true. A clause all of whose literals are false is a conflict.
 #![tactic(auto)]
 
-mod look;
+mod table;
 #[cfg(test)]
 mod tests;
 mod watches;

@@ -114,3 +114,24 @@ fn one_more_clause_is_taken_over(rt: HostRuntime) -> Result<(), Fail> {
     watches.attach(&store, unit)?;
     Ok(())
 }
+
+#[test]
+fn a_clause_of_two_literals_gives_either(rt: HostRuntime) -> Result<(), Fail> {
+    let mut store = ClauseStore::new(rt.alloc());
+    store.add(&[FIRST, SECOND], false)?;
+    let mut watches = Watches::new(rt.alloc());
+    watches.prepare(&store, 2)?;
+    let mut trail = Trail::new(rt.alloc());
+    trail.reserve(2)?;
+    trail.decide(NOT_FIRST);
+    assert_eq!(rt; watches.propagate(&store, &mut trail), Found::Quiet);
+    assert_eq!(rt; trail.lits(), [NOT_FIRST, SECOND].as_slice());
+
+    watches.rewind(0);
+    let mut other = Trail::new(rt.alloc());
+    other.reserve(2)?;
+    other.decide(NOT_SECOND);
+    assert_eq!(rt; watches.propagate(&store, &mut other), Found::Quiet);
+    assert_eq!(rt; other.lits(), [NOT_SECOND, FIRST].as_slice());
+    Ok(())
+}

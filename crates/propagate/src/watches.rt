@@ -1,15 +1,18 @@
-ghost use Rattle.std.specs.Prelude.{◌≡◌, ◌∷◌, ◌++◌, [], true, map, take, option_map, option_to_list, IfOk, OnOk, OnErr, IsTrue, not};
+ghost use Rattle.std.specs.Prelude.{◌≡◌, ◌<◌, ◌≤◌, ℕ, length, slice_index, ◌∷◌, ◌++◌, [], true, map, take, option_map, option_to_list, IfOk, OnOk, OnErr, IsTrue, not};
 ghost use Rattle.trail.specs.Trail.{lits_of, IsKept};
 ghost use Rattle.clause_store.specs.Store.{clause_at, is_live};
 ghost use Rattle.propagate.specs.Reasons.{Extends, Follows, names, reasoned};
 ghost use Rattle.propagate.specs.Watching.{HasTaken, IsDone, IsFront, taken_as, is_taken, lits_below, clauses_below, steps_below, is_right};
 
-use crate::look::{Round, look_around};
+use crate::table::{Table, Walk, mark_all, reserve_all};
 use clause_store::ClauseStore;
 use sat_lits::{ClauseId, InLit, List, NoMemory};
 use std::alloc::Global;
 use std::marker::Model;
 use trail::Trail;
+
+/// More clauses are not taken over, since each has two entries that are numbered by words of 32 bits.
+const MOST_CLAUSES: usize = 2147483647;
 
 /// What propagation came to.
 #[derive(Clone, Copy, Debug, PartialEq, Eq)]
@@ -30,13 +33,23 @@ pub struct Taken {
 /// Finds the literals that the clauses of a store give under a trail.
 ///
 /// It takes clauses over from the store before it looks at them, and knows which literals of the
-/// trail it is done with.
+/// trail it is done with. Each clause watches two of its literals, and is looked at where one of
+/// these becomes false (Moskewicz, Madigan, Zhao, Zhang and Malik, 2001).
 #[derive(Debug, Drop)]
 pub struct Watches {
     taken: Vec<Taken>,
     // With room for one literal of each variable.
     done: Vec<InLit>,
     variables: u32,
+    // For each place of `done` the place from which literals are walked again where a trail goes
+    // back to it. With room as `done`.
+    starts: Vec<usize>,
+    // The chains of the literals of `done` before this place are walked.
+    walked: usize,
+    table: Table,
+    // The places in `taken` of the clauses that are looked at whole in the next call: those that
+    // were taken over since the last one, and those that have no two literals to watch.
+    fresh: Vec<usize>,
 }
 
 impl Model for Watches {
@@ -60,12 +73,16 @@ impl Watches {
             taken: Vec::new(alloc),
             done: Vec::new(alloc),
             variables: 0,
+            starts: Vec::new(alloc),
+            walked: 0,
+            table: Table::new(alloc),
+            fresh: Vec::new(alloc),
         }
     }
 
     /// Takes over all clauses of a store in place of those before, where their variables are below a
-    /// number. No literal is done with then. The only error is want of memory, and nothing changes
-    /// then.
+    /// number. No literal is done with then. The only error is want of memory, as which more than
+    /// 2147483647 clauses count too, and nothing changes then.
     #[tactic(auto, using(crate::specs::TakenLaws::takes_all))]
     pub fn prepare(&mut self, store: &ClauseStore, variables: u32) -> Result<(), NoMemory>
         requires { IsTrue (clauses_below variables store.now.held) }
@@ -75,18 +92,28 @@ impl Watches {
     {
         let alloc = *self.done.allocator();
         let taken = take_all_over(alloc, store)?;
+        if taken.len() > MOST_CLAUSES {
+            return Err(NoMemory);
+        }
         let done = Vec::with_capacity(alloc, variables as usize)?;
+        let starts = Vec::with_capacity(alloc, variables as usize)?;
+        let table = Table::of(alloc, variables, taken.len())?;
+        let fresh = count_to(alloc, taken.len())?;
         *self = Watches {
             taken,
             done,
             variables,
+            starts,
+            walked: 0,
+            table,
+            fresh,
         };
         Ok(())
     }
 
     /// Takes over one more clause, under whose id none was taken over, where its variables are below
-    /// the number that `prepare` was given. The only error is want of memory, and nothing changes
-    /// then.
+    /// the number that `prepare` was given. The only error is want of memory, as which more than
+    /// 2147483647 clauses count too, and nothing changes then.
     pub fn attach(&mut self, store: &ClauseStore, id: ClauseId) -> Result<(), NoMemory>
         requires live { IsTrue (is_live store.now.held id.0) }
         requires fresh { IsTrue (not (is_taken self.old.taken id.0)) }
@@ -94,8 +121,15 @@ impl Watches {
         ensures ok { OnOk result (self.new ≡ record self.old { taken = self.old.taken ++ map taken_as (option_to_list (clause_at store.now.held id.0)) }) }
         ensures err { OnErr result (self.new ≡ self.old) }
     {
+        if self.taken.len() >= MOST_CLAUSES {
+            return Err(NoMemory);
+        }
         let clause = take_over(*self.done.allocator(), store, id)?;
-        self.taken.push(clause)?;
+        reserve_all(&mut self.taken, &mut self.table, &mut self.fresh)?;
+        let place = self.taken.len();
+        self.taken.push_reserved(clause);
+        self.table.add_whole();
+        self.fresh.push_reserved(place);
         Ok(())
     }
 
@@ -104,7 +138,11 @@ impl Watches {
     pub fn rewind(&mut self, keep: usize)
         ensures { self.new ≡ record self.old { done = take keep self.old.done } }
     {
-        self.done.truncate(keep);
+        if keep < self.done.len() {
+            self.walked = self.walked.min(self.starts[keep]);
+            self.done.truncate(keep);
+            self.starts.truncate(keep);
+        }
     }
 
     /// Assigns the literals that clauses give, each with its clause as the reason, until a clause is
@@ -127,28 +165,44 @@ impl Watches {
         ensures done { IsDone self.new.done (lits_of trail.new.steps) result }
         ensures same { self.new ≡ record self.old { done = self.new.done } }
     {
-        loop {
-            self.follow(trail);
-            match look_around(store, trail) {
-                Round::AllSettled => return Found::Quiet,
-                Round::OneFalse(id) => return Found::Conflict(id),
-                Round::Unit(lit, id) => trail.assign(lit, Some(id)),
+        // The store's own facts are known from here on.
+        let _live = store.is_live(ClauseId(0));
+        let first = self.walked;
+        if let Some(id) = self.table.look_fresh(
+            &mut self.fresh,
+            &mut self.walked,
+            &self.done,
+            &self.taken,
+            store,
+            trail,
+        ) {
+            return Found::Conflict(id);
+        }
+        match self.table.pass(&self.taken, store, trail, first) {
+            Walk::Conflict(id) => Found::Conflict(id),
+            Walk::Missed => {
+                mark_all(&mut self.done, &mut self.starts, self.walked, trail.lits());
+                Found::Quiet
+            }
+            Walk::Done => {
+                mark_all(&mut self.done, &mut self.starts, self.walked, trail.lits());
+                self.walked = self.done.len();
+                Found::Quiet
             }
         }
     }
+}
 
-    /// Is done with all literals of a trail.
-    fn follow(&mut self, trail: &Trail)
-        requires steps { IsTrue (steps_below self.old.variables trail.now.steps) }
-        requires done { IsFront self.old.done (lits_of trail.now.steps) }
-        ensures done { self.new ≡ record self.old { done = lits_of trail.now.steps } }
-        ensures kept { IsKept trail.now }
-    {
-        let lits = trail.lits();
-        for place in self.done.len()..lits.len() {
-            self.done.push_reserved(lits[place]);
-        }
+/// The numbers below a given one, in order.
+fn count_to(alloc: Global, end: usize) -> Result<Vec<usize>, NoMemory>
+    ensures len { IfOk result (λ v. length v.items ≡ end) }
+    ensures each { IfOk result (λ v. (i : ℕ) → i < end → slice_index v.items i ≡ i) }
+{
+    let mut numbers = Vec::with_capacity(alloc, end)?;
+    for number in 0..end {
+        numbers.push_reserved(number);
     }
+    Ok(numbers)
 }
 
 /// All clauses of a store, in order.
