@@ -1,5 +1,5 @@
 -- Why every run is right.
-use Rattle.std.proofs.Common.{◌≡◌, ℕ, zero, suc, ◌<◌, ◌≤◌, Bool, true, false, cond, List, [], ◌∷◌, ◌++◌, All, length, map, take, Option, Some, None, refl, sym, ap, subst, ◌∙◌, arith, true≢false}
+use Rattle.std.proofs.Common.{◌≡◌, ⊎_elim, ℕ, zero, suc, Bool, true, false, cond, List, [], ◌∷◌, ◌++◌, length, map, take, Option, Some, None, refl, sym, ap, subst, ◌∙◌, arith, true≢false}
 use Rattle.std.specs.List.{list_all, slice_get, cons_option}
 use Rattle.std.proofs.lemmas.Bool.{and_from}
 use Rattle.std.proofs.lemmas.List.{take_all}
@@ -7,11 +7,11 @@ use Rattle.std.proofs.lemmas.List.Folds.{list_all-append, list_all-map}
 use Rattle.std.proofs.lemmas.Option.{none-some, same_Some}
 use Rattle.sat_lits.specs.ListLaws.{all_push, all_front, all_get}
 use Rattle.sat_lits.specs.FollowLaws.{Follows_items, with_item-Extends}
-use Rattle.sat_lits.specs.LogLaws.{front_holds, each_follows, stays_legal, push_is_legal}
-use Rattle.sat_lits.specs.Meaning.{Problem, IsModel, Follows, satisfies, satisfies_clause}
+use Rattle.sat_lits.specs.LogLaws.{slice_get-push, front_holds, each_follows, stays_legal, push_is_legal}
+use Rattle.sat_lits.specs.Meaning.{IsModel, Follows, satisfies, satisfies_clause}
 use Rattle.sat_lits.specs.Formulas.{names_known, with_item}
 use Rattle.sat_lits.specs.Logs.{IsShareable, IsLegalAt, IsLegalLog}
-use Rattle.sat_lits.specs.Verdicts.{IsFailed, IsRight}
+use Rattle.sat_lits.specs.Verdicts.{IsRight}
 use Rattle.sat_lits.specs.declared.literal.Lit.{Lit}
 use Rattle.sat_lits.specs.declared.formula.Item.TheVariants.{Clause}
 use Rattle.sat_lits.specs.declared.shared.Shared.{Shared}
@@ -20,13 +20,14 @@ use Rattle.sat_lits.specs.declared.verdict.Verdict.TheVariants.{Sat, Unsat}
 use Rattle.race_model.specs.declared.event.Event.{Event}
 use Rattle.race_model.specs.declared.event.Event.TheVariants.{Add, Absorb, Give, Take, Say}
 use Rattle.race_model.specs.States.{State, start, taken_by, entries_at, entries_of, known_to}
-use Rattle.race_model.specs.Events.{is_known, given_entry, with_given, MaySay, IsAllowed, after_event, after_events, IsRun, EveryRunIsRight, EachGivenFollows, EarlyModelsMayFail}
+use Rattle.race_model.specs.Events.{is_known, given_entry, MaySay, IsAllowed, after_event, after_events, IsRun, EveryRunIsRight, EachGivenFollows, EachNamesAllBefore, EarlyModelsMayFail}
 use Rattle.race_model.proofs.Known.{lacks_unknown}
 
--- what every run keeps: the items name variables that are there, and the log is legal
+-- what every run keeps: the items name variables that are there, the log is legal, and each entry names all before it
 pub record IsSound (s : State) : Type 0 where
   pub known : list_all (names_known s.formula.vars) s.formula.items ≡ true
   pub legal : IsLegalLog s.formula s.log
+  pub all_before : (place : ℕ) (entry : Shared) → slice_get s.log place ≡ Some entry → entry.after ≡ place
 
 -- the entries at places of a log pass what all of its entries pass
 entries_pass : (p : Shared → Bool) (log : List Shared) (places : List ℕ) → list_all p log ≡ true → list_all p (entries_at log places) ≡ true
@@ -52,24 +53,29 @@ knows_true s solver legal values m =
         ap (list_all (λ (e : Shared). satisfies_clause values e.clause)) (sym (take_all (length s.log) s.log (omega arith)))
         ∙ front_holds s.formula s.log legal values m (length s.log)
 
--- a legal log stays legal where a solver gives a clause that follows from what it knows
-given_is_legal : (s : State) (solver : ℕ) (clause : List Lit) → IsLegalLog s.formula s.log → IsShareable s.formula.vars clause → Follows (known_to s solver) clause → IsLegalLog s.formula (with_given s.log solver clause)
-given_is_legal s solver clause legal shareable follows = step (is_known s.log clause) refl
+-- a sound state stays sound where a solver gives a clause that follows from what it knows
+given_sound : (s : State) (solver : ℕ) (clause : List Lit) → IsSound s → IsShareable s.formula.vars clause → Follows (known_to s solver) clause → IsSound (after_event s (Give solver clause))
+given_sound s solver clause sound shareable follows = step (is_known s.log clause) refl
   where
-    entry : Shared
-    entry = given_entry s.log solver clause
-
     at_end : IsLegalAt s.formula s.log (length s.log) (given_entry s.log solver clause)
     at_end =
         record {
           earlier = omega arith;
-          follows = Follows_items s.formula (map (λ (e : Shared). Clause e.clause) (take (length s.log) s.log)) clause (λ values m. follows values (knows_true s solver legal values m));
+          follows = Follows_items s.formula (map (λ (e : Shared). Clause e.clause) (take (length s.log) s.log)) clause (λ values m. follows values (knows_true s solver sound.legal values m));
           shareable = shareable;
         }
 
-    step : (b : Bool) → is_known s.log clause ≡ b → IsLegalLog s.formula (cond b s.log (s.log ++ given_entry s.log solver clause ∷ []))
-    step true known = legal
-    step false known = push_is_legal s.formula s.log (given_entry s.log solver clause) legal at_end (lacks_unknown s.log clause known)
+    step : (b : Bool) → is_known s.log clause ≡ b → IsSound (record s { log = cond b s.log (s.log ++ given_entry s.log solver clause ∷ []) })
+    step true known = sound
+    step false known =
+        record {
+          known = sound.known;
+          legal = push_is_legal s.formula s.log (given_entry s.log solver clause) sound.legal at_end (lacks_unknown s.log clause known);
+          all_before = λ place entry stands.
+              ⊎_elim (λ (h : slice_get s.log place ≡ Some entry). sound.all_before place entry h)
+              (λ (h : (place ≡ length s.log) × (given_entry s.log solver clause ≡ entry)). ap (λ (e : Shared). e.after) (sym h.1) ∙ sym h.0)
+              (slice_get-push s.log (given_entry s.log solver clause) place entry stands);
+        }
 
 -- an allowed event keeps a state sound
 event_sound : (s : State) (event : Event) → IsSound s → IsAllowed s event → IsSound (after_event s event)
@@ -77,10 +83,11 @@ event_sound s (Add item) sound allowed =
     record {
       known = all_push (names_known s.formula.vars) s.formula.items item sound.known allowed;
       legal = stays_legal s.formula (with_item item s.formula) s.log sound.known (with_item-Extends item s.formula) sound.legal;
+      all_before = sound.all_before;
     }
-event_sound s (Absorb solver) sound allowed = record { known = sound.known; legal = sound.legal }
-event_sound s (Give solver clause) sound allowed = record { known = sound.known; legal = given_is_legal s solver clause sound.legal allowed.1 allowed.2 }
-event_sound s (Take solver place) sound allowed = record { known = sound.known; legal = sound.legal }
+event_sound s (Absorb solver) sound allowed = record { known = sound.known; legal = sound.legal; all_before = sound.all_before }
+event_sound s (Give solver clause) sound allowed = given_sound s solver clause sound allowed.1 allowed.2
+event_sound s (Take solver place) sound allowed = record { known = sound.known; legal = sound.legal; all_before = sound.all_before }
 event_sound s (Say solver assumptions verdict) sound allowed = sound
 
 -- a verdict that may be said is right
@@ -118,6 +125,7 @@ start_sound solvers vars =
     record {
       known = refl;
       legal = record { each = λ place entry stands. absurd (none-some entry stands); once = λ i j d below within. absurd (omega arith) };
+      all_before = λ place entry stands. absurd (none-some entry stands);
     }
 
 pub every_run : EveryRunIsRight
@@ -127,11 +135,18 @@ every_run solvers vars events run =
       right = says_right events (start solvers vars) (start_sound solvers vars) run;
     }
 
+-- a run from the start leaves a sound state
+run_sound : (solvers vars : ℕ) (events : List Event) → IsRun (start solvers vars) events → IsSound (after_events (start solvers vars) events)
+run_sound solvers vars events run =
+    subst (λ es. IsSound (after_events (start solvers vars) es)) (take_all (length events) events (omega arith))
+    (front_sound events (start solvers vars) (start_sound solvers vars) run (length events))
+
 pub each_given : EachGivenFollows
 each_given solvers vars events run =
-    let whole : take (length events) events ≡ events = take_all (length events) events (omega arith) in
-    let sound : IsSound (after_events (start solvers vars) events) = subst (λ es. IsSound (after_events (start solvers vars) es)) whole (front_sound events (start solvers vars) (start_sound solvers vars) run (length events)) in
-    each_follows (after_events (start solvers vars) events).formula (after_events (start solvers vars) events).log sound.legal
+    each_follows (after_events (start solvers vars) events).formula (after_events (start solvers vars) events).log (run_sound solvers vars events run).legal
+
+pub each_names : EachNamesAllBefore
+each_names solvers vars events run = (run_sound solvers vars events run).all_before
 
 -- the formula says that its variable is false, and no solver has taken that
 pub early_fails : EarlyModelsMayFail

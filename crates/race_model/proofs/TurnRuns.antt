@@ -1,6 +1,6 @@
 -- Why a turn is a run of the machine.
-use Rattle.std.proofs.Common.{◌≡◌, ◌≢◌, ℕ, zero, suc, ◌+◌, ◌<◌, ◌≤◌, Bool, true, false, cond, List, [], ◌∷◌, ◌++◌, All, AllPairs, length, map, take, get_or, set, Option, Some, None, refl, sym, ap, ap₂, subst, ◌∙◌, arith, length-append, append_assoc, append-nil}
-use Rattle.std.specs.List.{list_all, slice_get, cons_option, Contains}
+use Rattle.std.proofs.Common.{◌≡◌, ℕ, zero, suc, ◌<◌, false, cond, List, [], ◌∷◌, ◌++◌, All, AllPairs, length, map, take, get_or, Option, Some, None, refl, sym, ap, ap₂, subst, ◌∙◌, arith, length-append, append_assoc, append-nil}
+use Rattle.std.specs.List.{slice_get, cons_option, Contains}
 use Rattle.std.specs.Option.{option_map}
 use Rattle.std.proofs.lemmas.List.{take_all, map-append, length-set, get_or-set_same, get_or-set_other}
 use Rattle.std.proofs.lemmas.List.Elements.{All-push, filter_map-append}
@@ -18,9 +18,9 @@ use Rattle.sat_lits.specs.declared.shared.Shared.{Shared}
 use Rattle.race_model.specs.declared.taken.Taken.{Taken}
 use Rattle.race_model.specs.declared.event.Event.{Event}
 use Rattle.race_model.specs.declared.event.Event.TheVariants.{Give, Take}
-use Rattle.race_model.specs.States.{State, nothing, taken_by, entries_at, entries_of, known_to, HasAllItems}
-use Rattle.race_model.specs.Events.{is_known, given_entry, IsAllowed, after_event, after_events, IsRun}
-use Rattle.race_model.specs.Turns.{IsTurn, turn_events, solver_and_clause, SameButAfter, StandsFor, IsTurnRun, TurnsAreRuns}
+use Rattle.race_model.specs.States.{State, nothing, taken_by, entries_at, entries_of, known_to}
+use Rattle.race_model.specs.Events.{is_known, given_entry, after_event, after_events, IsRun}
+use Rattle.race_model.specs.Turns.{solver_and_clause, SameButAfter, StandsFor, IsTurnRun, TurnsAreRuns}
 use Rattle.race_model.proofs.Known.{unknown_lacks, known_alike}
 
 -- the entry at a place of a log stands at that place of one that agrees with it
@@ -173,12 +173,11 @@ takes (entry ∷ more) s solver had log stands there =
     step (place, within, is) further =
         let at : slice_get log place ≡ Some entry = slice_get-get_or log place entry within ∙ ap Some is in
         let first : IsTurnRun s solver log (had ++ entry ∷ []) log (Take solver place ∷ []) = take_one s solver had log stands place entry at in
-        let rest = further (after_event s (Take solver place)) (had ++ entry ∷ []) first.stands in
-        (
+        let rest = further (after_event s (Take solver place)) (had ++ entry ∷ []) first.stands in (
           place ∷ rest.0,
           ap₂ cons_option at rest.1,
           subst (λ (l : List Shared). IsTurnRun s solver log l log (Take solver place ∷ map (λ p. Take solver p) rest.0)) (append_assoc had (entry ∷ []) more)
-          (joined s solver log ((had ++ entry ∷ []) ++ more) log (had ++ entry ∷ []) log (Take solver place ∷ []) (map (λ p. Take solver p) rest.0) first rest.2),
+              (joined s solver log ((had ++ entry ∷ []) ++ more) log (had ++ entry ∷ []) log (Take solver place ∷ []) (map (λ p. Take solver p) rest.0) first rest.2),
         )
 
 -- a solver gives new clauses, one after the other
@@ -217,12 +216,12 @@ pub turns_run : TurnsAreRuns
 turns_run s solver had log has next turn stands =
     let taking = takes turn.more s solver had log stands turn.there in
     let taken : IsTurnRun s solver log has log (map (λ place. Take solver place) taking.0) =
-        subst (λ (l : List Shared). IsTurnRun s solver log l log (map (λ place. Take solver place) taking.0)) (sym turn.taken) taking.2 in
+    subst (λ (l : List Shared). IsTurnRun s solver log l log (map (λ place. Take solver place) taking.0)) (sym turn.taken) taking.2 in
     let after : State = after_events s (map (λ place. Take solver place) taking.0) in
     let giving : IsTurnRun after solver log has next (map (λ clause. Give solver clause) turn.given) =
-        subst (λ (l : List Shared). IsTurnRun after solver log has l (map (λ clause. Give solver clause) turn.given)) (sym turn.added)
-        (gives turn.given after solver has log log taken.stands
-        (subst (λ (f : Problem). All (IsShareable f.vars) turn.given) (sym taken.formula) turn.shareable)
-        (subst (λ (f : Problem). All (Follows (with_clauses f has)) turn.given) (sym taken.formula) turn.follow)
-        (subst (AllPairs (λ (d e : Shared). d.clause ≡ e.clause → ⊥)) turn.added turn.once)) in
+    subst (λ (l : List Shared). IsTurnRun after solver log has l (map (λ clause. Give solver clause) turn.given)) (sym turn.added)
+    (gives turn.given after solver has log log taken.stands
+    (subst (λ (f : Problem). All (IsShareable f.vars) turn.given) (sym taken.formula) turn.shareable)
+    (subst (λ (f : Problem). All (Follows (with_clauses f has)) turn.given) (sym taken.formula) turn.follow)
+    (subst (AllPairs (λ (d e : Shared). d.clause ≡ e.clause → ⊥)) turn.added turn.once)) in
     (taking.0, taking.1, joined s solver log has log has next (map (λ place. Take solver place) taking.0) (map (λ clause. Give solver clause) turn.given) taken giving)

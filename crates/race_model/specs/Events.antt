@@ -25,26 +25,33 @@ same_lit l m = l.var.0 == m.var.0 && beq l.negative m.negative
 abbrev pub is_known : List Shared → List Lit → Bool
 is_known log clause = list_any (λ e. pointwise same_lit e.clause clause) log
 
--- the entry that a solver gives at the end of a log, after all of its entries
+-- the entry that a solver adds to a log; it names all entries before it
 abbrev pub given_entry : List Shared → ℕ → List Lit → Shared
 given_entry log solver clause = record { solver = solver; after = length log; clause = clause }
 
--- the log after a solver gave a clause
+-- the log after a solver gave a clause, which changes nothing where the clause is known
 abbrev pub with_given : List Shared → ℕ → List Lit → List Shared
-with_given log solver clause = if is_known log clause then log else log ++ given_entry log solver clause ∷ []
+with_given log solver clause =
+    if is_known log clause then log else log ++ given_entry log solver clause ∷ []
 
--- when a solver may say a verdict
+-- a model may be said by who took all items, a failed set by who knows that it fails
 abbrev pub MaySay : State → ℕ → List Lit → Verdict → Type 0
-MaySay s solver assumptions (Sat values) = HasAllItems s solver × IsModel (absorbed s solver) values × (makes_true values assumptions ≡ true)
+MaySay s solver assumptions (Sat values) =
+    HasAllItems s solver × IsModel (absorbed s solver) values
+    × (makes_true values assumptions ≡ true)
 MaySay s solver assumptions (Unsat failed) = IsFailed (known_to s solver) assumptions failed
 
 -- when an event is allowed
 abbrev pub IsAllowed : State → Event → Type 0
 IsAllowed s (Add item) = names_known s.formula.vars item ≡ true
 IsAllowed s (Absorb solver) = solver < length s.taken
-IsAllowed s (Give solver clause) = (solver < length s.taken) × IsShareable s.formula.vars clause × Follows (known_to s solver) clause
-IsAllowed s (Take solver place) = (solver < length s.taken) × (place < length s.log) × HasAllItems s solver
-IsAllowed s (Say solver assumptions verdict) = (solver < length s.taken) × MaySay s solver assumptions verdict
+IsAllowed s (Give solver clause) =
+    (solver < length s.taken) × IsShareable s.formula.vars clause
+    × Follows (known_to s solver) clause
+IsAllowed s (Take solver place) =
+    (solver < length s.taken) × (place < length s.log) × HasAllItems s solver
+IsAllowed s (Say solver assumptions verdict) =
+    (solver < length s.taken) × MaySay s solver assumptions verdict
 
 -- the state after an event
 abbrev pub after_event : State → Event → State
@@ -54,7 +61,7 @@ after_event s (Give solver clause) = record s { log = with_given s.log solver cl
 after_event s (Take solver place) = with_place s solver place
 after_event s (Say solver assumptions verdict) = s
 
--- the state after events
+-- the state after events, one after the other
 abbrev pub after_events : State → List Event → State
 after_events s events = fold after_event s events
 
@@ -75,22 +82,39 @@ LeavesRoom s (Give solver clause) = Unit {0}
 LeavesRoom s (Take solver place) = Unit {0}
 LeavesRoom s (Say solver assumptions verdict) = Unit {0}
 
--- the log is legal after each number of events, and each verdict is right for the formula of its moment
+-- the log is legal for the formula after each number of events, and each verdict said is right for
+-- the formula of its moment
 pub record IsRightRun (from : State) (events : List Event) : Type 0 where
-  pub legal : (count : ℕ) → let s = after_events from (take count events) in IsLegalLog s.formula s.log
-  pub right : (place solver : ℕ) (assumptions : List Lit) (verdict : Verdict) → slice_get events place ≡ Some (Say solver assumptions verdict)
+  pub legal : (count : ℕ)
+      → let s = after_events from (take count events) in IsLegalLog s.formula s.log
+  pub right : (place solver : ℕ) (assumptions : List Lit) (verdict : Verdict)
+      → slice_get events place ≡ Some (Say solver assumptions verdict)
       → IsRight (after_events from (take place events)).formula assumptions verdict
 
 -- every run from the start is right
 abbrev pub EveryRunIsRight : Type 0
-EveryRunIsRight = (solvers vars : ℕ) (events : List Event) → IsRun (start solvers vars) events → IsRightRun (start solvers vars) events
+EveryRunIsRight =
+    (solvers vars : ℕ) (events : List Event) → IsRun (start solvers vars) events
+    → IsRightRun (start solvers vars) events
 
 -- after each run from the start, each clause of the log follows from the formula alone
 abbrev pub EachGivenFollows : Type 0
-EachGivenFollows = (solvers vars : ℕ) (events : List Event) → IsRun (start solvers vars) events
-    → let s = after_events (start solvers vars) events in (place : ℕ) (entry : Shared) → slice_get s.log place ≡ Some entry → Follows s.formula entry.clause
+EachGivenFollows =
+    (solvers vars : ℕ) (events : List Event) → IsRun (start solvers vars) events
+    → let s = after_events (start solvers vars) events in
+    (place : ℕ) (entry : Shared) → slice_get s.log place ≡ Some entry
+    → Follows s.formula entry.clause
 
--- after some run, a model of the items that a solver took is no model of the formula, since the solver has not taken all
+-- and each entry names all entries before it
+abbrev pub EachNamesAllBefore : Type 0
+EachNamesAllBefore =
+    (solvers vars : ℕ) (events : List Event) → IsRun (start solvers vars) events
+    → let s = after_events (start solvers vars) events in
+    (place : ℕ) (entry : Shared) → slice_get s.log place ≡ Some entry → entry.after ≡ place
+
+-- after some run, a model of the items that solver 0 took is no model of the formula
 abbrev pub EarlyModelsMayFail : Type 0
-EarlyModelsMayFail = (events : List Event) × (values : List Bool) × IsRun (start 1 1) events
-    × (let s = after_events (start 1 1) events in IsModel (absorbed s 0) values × (IsModel s.formula values → ⊥))
+EarlyModelsMayFail =
+    (events : List Event) × (values : List Bool) × IsRun (start 1 1) events
+    × (let s = after_events (start 1 1) events in
+    IsModel (absorbed s 0) values × (IsModel s.formula values → ⊥))

@@ -18,7 +18,9 @@ nothing = record { items = 0; places = [] }
 
 -- no items, an empty log, and solvers that have taken nothing
 abbrev pub start : ℕ → ℕ → State
-start solvers vars = record { formula = record { vars = vars; items = [] }; log = []; taken = replicate solvers nothing }
+start solvers vars =
+    let formula : Problem = record { vars = vars; items = [] } in
+    record { formula = formula; log = []; taken = replicate solvers nothing }
 
 -- what this solver took
 abbrev pub taken_by : State → ℕ → Taken
@@ -26,7 +28,8 @@ taken_by s solver = slice_index_or s.taken solver nothing
 
 -- the formula of the items that it took
 abbrev pub absorbed : State → ℕ → Problem
-absorbed s solver = record { vars = s.formula.vars; items = take (taken_by s solver).items s.formula.items }
+absorbed s solver =
+    record { vars = s.formula.vars; items = take (taken_by s solver).items s.formula.items }
 
 -- the entries at these places of a log, where there are entries
 abbrev pub entries_at : List Shared → List ℕ → List Shared
@@ -50,8 +53,12 @@ with_taken s solver taken = record s { taken = slice_set s.taken solver taken }
 
 -- the state where it took all items
 abbrev pub with_all_items : State → ℕ → State
-with_all_items s solver = with_taken s solver (record { items = length s.formula.items; places = (taken_by s solver).places })
+with_all_items s solver =
+    let taken = taken_by s solver in
+    with_taken s solver (record { items = length s.formula.items; places = taken.places })
 
 -- the state where it took one place more
 abbrev pub with_place : State → ℕ → ℕ → State
-with_place s solver place = with_taken s solver (record { items = (taken_by s solver).items; places = (taken_by s solver).places ++ place ∷ [] })
+with_place s solver place =
+    let taken = taken_by s solver in
+    with_taken s solver (record { items = taken.items; places = taken.places ++ place ∷ [] })

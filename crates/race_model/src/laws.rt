@@ -1,6 +1,7 @@
 //! Laws on the machine. Each is the contract of a function that does nothing.
 
-ghost use Rattle.race_model.specs.Events.{EveryRunIsRight, EachGivenFollows, EarlyModelsMayFail};
+ghost use Rattle.race_model.specs.Events.{EveryRunIsRight, EachGivenFollows};
+ghost use Rattle.race_model.specs.Events.{EachNamesAllBefore, EarlyModelsMayFail};
 ghost use Rattle.race_model.specs.Turns.{TurnsAreRuns};
 
 /// For every list of events, each allowed in its state, from a formula without items, an empty log
@@ -13,6 +14,11 @@ pub fn every_run_is_right()
 /// After each such list of events, each clause of the log follows from the formula alone.
 pub fn each_clause_given_follows()
     ensures { EachGivenFollows }
+{}
+
+/// And each of its entries names all entries before it as those that its clause follows from.
+pub fn each_entry_names_all_before()
+    ensures { EachNamesAllBefore }
 {}
 
 /// A model may be said only where all items were taken: of some run, a model of the items that a

@@ -3,7 +3,8 @@ ghost use Rattle.std.specs.Result.{ForErr};
 ghost use Rattle.sat_lits.specs.Limits.{standard_limits};
 ghost use Rattle.sat_lits.specs.Formulas.{names_known, with_item};
 ghost use Rattle.race_model.specs.States.{start, with_all_items, with_place};
-ghost use Rattle.race_model.specs.Events.{is_known, with_given, after_event, IsAllowed, LeavesRoom, HasRoom};
+ghost use Rattle.race_model.specs.Events.{is_known, with_given, after_event};
+ghost use Rattle.race_model.specs.Events.{IsAllowed, HasRoom, LeavesRoom};
 
 use crate::event::Event;
 use crate::taken::Taken;
@@ -26,7 +27,8 @@ impl Model for Machine {
 
     ghost Value = { State };
 
-    ghost view = { λ m. record { formula = m.formula.problem; log = m.log.items; taken = m.taken.items } };
+    ghost view = { λ m.
+        record { formula = m.formula.problem; log = m.log.items; taken = m.taken.items } };
 
     ghost invariant = { λ m. m.formula.limits ≡ standard_limits };
 }
@@ -54,7 +56,11 @@ impl Machine {
         })
     }
 
-    /// Lets an event happen. The only error is want of memory; the machine is then as it was.
+    /// Lets an event happen that is allowed now. An item that is added must leave the formula's
+    /// literals within the standard limit. The only error is want of memory; the machine is then as
+    /// it was.
+    ///
+    /// A Give walks over the log to see whether it has the clause.
     pub fn step(&mut self, event: &Event) -> Result<(), NoMemory>
         requires allowed { IsAllowed self.old event.now }
         requires room { LeavesRoom self.old event.now }
@@ -92,12 +98,15 @@ impl Machine {
     fn add(&mut self, item: &Item) -> Result<(), NoMemory>
         requires known { names_known self.old.formula.vars item.now ≡ true }
         requires room { HasRoom self.old.formula item.now }
-        ensures ok { OnOk result (self.new ≡ record self.old { formula = with_item item.now self.old.formula }) }
+        ensures ok { OnOk result (self.new
+            ≡ record self.old { formula = with_item item.now self.old.formula }) }
         ensures err { OnErr result (self.new ≡ self.old) }
     {
         match item {
             Item::Clause(lits) => only_memory(self.formula.push_clause(lits.as_slice())),
-            Item::Parity { vars, rhs } => only_memory(self.formula.push_parity(vars.as_slice(), *rhs)),
+            Item::Parity { vars, rhs } => only_memory(
+                self.formula.push_parity(vars.as_slice(), *rhs),
+            ),
         }
     }
 
@@ -121,7 +130,8 @@ impl Machine {
 
     /// Appends an entry with the clause, unless an entry has it. The only error is want of memory.
     fn give(&mut self, solver: u32, clause: &[Lit]) -> Result<(), NoMemory>
-        ensures ok { OnOk result (self.new ≡ record self.old { log = with_given self.old.log solver clause.now }) }
+        ensures ok { OnOk result (self.new
+            ≡ record self.old { log = with_given self.old.log solver clause.now }) }
         ensures err { OnErr result (self.new ≡ self.old) }
     {
         if is_known(&self.log, clause) {

@@ -25,9 +25,12 @@ fn unit(alloc: Global, lit: Lit) -> Result<List<Lit>, NoMemory>
 
 /// Two solvers took the item that the first of two variables is true, and solver 0 gave it.
 fn first_given(alloc: Global) -> Result<Machine, Fail>
-    ensures formula { IfOk result (λ machine. machine.formula ≡ record { vars = 2; items = Clause (FIRST ∷ []) ∷ [] }) }
-    ensures log { IfOk result (λ machine. machine.log ≡ record { solver = 0; after = 0; clause = FIRST ∷ [] } ∷ []) }
-    ensures taken { IfOk result (λ machine. machine.taken ≡ record { items = 1; places = [] } ∷ record { items = 1; places = [] } ∷ []) }
+    ensures formula { IfOk result (λ machine. machine.formula
+        ≡ record { vars = 2; items = Clause (FIRST ∷ []) ∷ [] }) }
+    ensures log { IfOk result (λ machine. machine.log
+        ≡ record { solver = 0; after = 0; clause = FIRST ∷ [] } ∷ []) }
+    ensures taken { IfOk result (λ machine. machine.taken
+        ≡ record { items = 1; places = [] } ∷ record { items = 1; places = [] } ∷ []) }
 {
     let mut machine = Machine::new(alloc, 2, 2)?;
     let added = Event::Add(Item::Clause(unit(alloc, FIRST)?));

@@ -1,6 +1,5 @@
 use Rattle.std.proofs.Common.{◌≡◌, ◌<◌, Bool, true, false, not, ◌&&◌, ◌||◌, List, [], ◌∷◌, length, get_or, refl, sym, subst, ◌∙◌, true≢false, arith}
-use Rattle.sat_lits.specs.Meaning.{IsModel}
-use Rattle.sat_lits.specs.Verdicts.{makes_true, IsFailed}
+use Rattle.sat_lits.specs.Verdicts.{IsFailed}
 use Rattle.sat_lits.specs.declared.literal.Lit.{Lit}
 use Rattle.sat_lits.specs.declared.formula.Item.TheVariants.{Clause}
 use Rattle.race_model.specs.declared.tests.TheConstants.{FIRST, NOT_FIRST}

@@ -1,4 +1,4 @@
-use Rattle.std.proofs.Common.{◌≡◌, ◌+◌, ◌≤◌, true, List, ◌∷◌, ◌++◌, [], length, map, sym, ap, ◌∙◌, arith}
+use Rattle.std.proofs.Common.{◌≡◌, ◌+◌, true, ◌∷◌, ◌++◌, [], length, ap, ◌∙◌, arith}
 use Rattle.std.proofs.lemmas.List.{length-map}
 use Rattle.sat_lits.specs.Formulas.{names_known, numbers_of, lit_count}
 use Rattle.sat_lits.specs.Laws.{lit_count-push}
@@ -6,7 +6,6 @@ use Rattle.sat_lits.specs.Limits.{LimitNumbers}
 use Rattle.sat_lits.specs.declared.literal.Lit.{Lit}
 use Rattle.sat_lits.specs.declared.literal.Var.{Var}
 use Rattle.sat_lits.specs.declared.formula.Item.TheVariants.{Clause, Parity}
-use Rattle.race_model.specs.States.{State}
 use Rattle.race_model.proofs.Refusals.{only_memory}
 use Rattle.race_model.proofs.machine.Machine.add.Goals as goal
 
