@@ -13,12 +13,12 @@ use Rattle.dimacs_text.specs.Walk.{is_blank}
 use Rattle.dimacs_text.specs.Tokens.{signed}
 use Rattle.dimacs_text.specs.Steps.{Step, Goes, Fails, extended, token_of, token_step, word_step, byte_step, past_blank, at_end, end_step}
 use Rattle.dimacs_text.specs.Commands.{AreWithin, item_of}
-use Rattle.dimacs_text.specs.Stands.{Counts}
+use Rattle.dimacs_text.specs.Resuming.{Counts}
 use Rattle.dimacs_text.specs.declared.token.Token.{Token}
 use Rattle.dimacs_text.specs.declared.token.Token.TheVariants.{Ending, Literal, TooLarge, NoLiteral}
 use Rattle.dimacs_text.specs.declared.token.Word.{Word}
 use Rattle.dimacs_text.specs.declared.token.Word.TheVariants.{Empty, Minus, Digits, NoNumber}
-use Rattle.dimacs_text.specs.declared.state.State.{State}
+use Rattle.dimacs_text.specs.declared.reader.Reader.{Reader}
 use Rattle.dimacs_text.specs.declared.command.Command.{Command}
 use Rattle.dimacs_text.specs.declared.command.Command.TheVariants.{Clause}
 use Rattle.dimacs_text.specs.declared.refusal.Refusal.TheVariants.{NotPlain}
@@ -71,20 +71,20 @@ lit_count-more commands lits =
     omega (arith, split, same)
 
 -- commands that are counted are within the limits
-pub counts-within : (commands : List Command) (s : State) → Counts commands s → AreWithin s.limits commands
+pub counts-within : (commands : List Command) (s : Reader) → Counts commands s → AreWithin s.limits commands
 counts-within commands s counts = record { known = counts.known; few = omega (arith, counts.count, counts.few) }
 
 -- also where none is added
-within_none : (commands : List Command) (s : State) → Counts commands s → AreWithin s.limits (commands ++ [])
+within_none : (commands : List Command) (s : Reader) → Counts commands s → AreWithin s.limits (commands ++ [])
 within_none commands s counts = rw append-nil (counts-within commands s counts)
 
 -- what a step leaves is counted and within the limits
-abbrev pub Keeps : State → List Command → Step → Type 0
+abbrev pub Keeps : Reader → List Command → Step → Type 0
 Keeps old commands (Goes s cs) = Counts (commands ++ cs) s × (s.limits ≡ old.limits)
 Keeps old commands (Fails why cs) = AreWithin old.limits (commands ++ cs)
 
 -- the end of a token keeps the counts
-token-keeps : (commands : List Command) (s : State) (t : Token) → IsKnown s.limits.vars t → Counts commands s → Keeps s commands (token_step s t)
+token-keeps : (commands : List Command) (s : Reader) (t : Token) → IsKnown s.limits.vars t → Counts commands s → Keeps s commands (token_step s t)
 unfolding token_step
 token-keeps commands s Ending h counts = (
   record {
@@ -115,7 +115,7 @@ token-keeps commands s TooLarge h counts = within_none commands s counts
 token-keeps commands s NoLiteral h counts = within_none commands s counts
 
 -- the end of a word keeps the counts
-word-keeps : (commands : List Command) (s : State) (word : Word) → Counts commands s → Keeps s commands (word_step s word)
+word-keeps : (commands : List Command) (s : Reader) (word : Word) → Counts commands s → Keeps s commands (word_step s word)
 unfolding word_step
 word-keeps commands s Empty counts = (rw append-nil counts, refl)
 word-keeps commands s Minus counts = token-keeps commands s (token_of s.limits.vars Minus) (token_of-known s.limits.vars Minus) counts
@@ -123,12 +123,12 @@ word-keeps commands s (Digits negative v) counts = token-keeps commands s (token
 word-keeps commands s NoNumber counts = token-keeps commands s (token_of s.limits.vars NoNumber) (token_of-known s.limits.vars NoNumber) counts
 
 -- a blank keeps the counts
-blank-keeps : (commands : List Command) (old : State) (step : Step) → Keeps old commands step → Keeps old commands (past_blank old.place step)
+blank-keeps : (commands : List Command) (old : Reader) (step : Step) → Keeps old commands step → Keeps old commands (past_blank old.place step)
 blank-keeps commands old (Goes s cs) keeps = (record { known = keeps.0.known; known_open = keeps.0.known_open; count = keeps.0.count; few = keeps.0.few }, keeps.1)
 blank-keeps commands old (Fails why cs) within = within
 
 -- a byte keeps the counts
-pub byte-keeps : (commands : List Command) (s : State) (b : ℕ) → Counts commands s → Keeps s commands (byte_step s b)
+pub byte-keeps : (commands : List Command) (s : Reader) (b : ℕ) → Counts commands s → Keeps s commands (byte_step s b)
 unfolding byte_step
 byte-keeps commands s b counts = go (nat_lt s.place s.limits.input) (is_blank b)
   where
@@ -149,11 +149,11 @@ IsWithin limits commands (Goes s cs) = AreWithin limits (commands ++ cs)
 IsWithin limits commands (Fails why cs) = AreWithin limits (commands ++ cs)
 
 -- the commands are within the limits where the text ends
-pub end-within : (commands : List Command) (s : State) → Counts commands s → IsWithin s.limits commands (end_step s)
+pub end-within : (commands : List Command) (s : Reader) → Counts commands s → IsWithin s.limits commands (end_step s)
 unfolding end_step
 end-within commands old counts = go (word_step old old.word) (word-keeps commands old old.word counts)
   where
-    chosen : (v : Bool) (s : State) (cs : List Command) → AreWithin old.limits (commands ++ cs) → IsWithin old.limits commands (elim v [ true ↦ Fails NotPlain cs | false ↦ Goes s cs ])
+    chosen : (v : Bool) (s : Reader) (cs : List Command) → AreWithin old.limits (commands ++ cs) → IsWithin old.limits commands (elim v [ true ↦ Fails NotPlain cs | false ↦ Goes s cs ])
     chosen true s cs h = h
     chosen false s cs h = h
 
@@ -164,7 +164,7 @@ end-within commands old counts = go (word_step old old.word) (word-keeps command
     go (Fails why cs) within = within
 
 -- nothing has come, and it is counted
-pub counts-none : (s : State) → s.lits ≡ [] → s.count ≡ 0 → Counts [] s
+pub counts-none : (s : Reader) → s.lits ≡ [] → s.count ≡ 0 → Counts [] s
 counts-none s lits count = record {
   known = refl;
   known_open = rw lits refl;

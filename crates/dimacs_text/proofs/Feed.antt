@@ -1,4 +1,4 @@
--- The state stands for the text so far, byte by byte.
+-- The state resumes for the text so far, byte by byte.
 use Rattle.std.proofs.Common.{◌≡◌, ℕ, suc, ◌+◌, ◌-◌, ◌<◌, ◌≤◌, Bool, true, false, ◌||◌, List, [], ◌∷◌, ◌++◌, length, take, nat_lt, nat_le, nat_eq, refl, sym, ◌∙◌, ap, subst, append_assoc, append-nil, length-append, arith}
 use Rattle.std.proofs.Math.Seq.{take-append-add, take-append_seam}
 use Rattle.std.proofs.Math.Bool.{or-true}
@@ -7,13 +7,13 @@ use Rattle.dimacs_text.specs.Walk.{is_blank, word, walk}
 use Rattle.dimacs_text.specs.Tokens.{is_digit, literal_token, is_there}
 use Rattle.dimacs_text.specs.Grammar.{Ended, Refused, Open, Reading, read, reading_of, cut_off, reading_from, literals, literals_end, text_end, with_literal}
 use Rattle.dimacs_text.specs.Steps.{Step, Goes, Fails, first_digit, extended, token_of, token_step, word_step, byte_step, past_blank, at_end, end_step}
-use Rattle.dimacs_text.specs.Stands.{IsSolid, Stands, word_after, rest_at, closed, listing_in}
+use Rattle.dimacs_text.specs.Resuming.{IsSolid, Resumes, word_after, rest_at, closed, listing_in}
 use Rattle.dimacs_text.specs.declared.token.Token.{Token}
 use Rattle.dimacs_text.specs.declared.token.Token.TheVariants.{Ending, Literal, TooLarge, NoLiteral}
 use Rattle.dimacs_text.specs.declared.token.Word.{Word}
 use Rattle.dimacs_text.specs.declared.token.Word.TheVariants.{Empty, Minus, Digits, NoNumber}
 use Rattle.sat_lits.specs.Limits.{LimitNumbers}
-use Rattle.dimacs_text.specs.declared.state.State.{State}
+use Rattle.dimacs_text.specs.declared.reader.Reader.{Reader}
 use Rattle.dimacs_text.specs.declared.command.Command.{Command}
 use Rattle.dimacs_text.specs.declared.refusal.Refusal.{Refusal}
 use Rattle.dimacs_text.specs.declared.refusal.Refusal.TheVariants.{NotPlain}
@@ -48,7 +48,7 @@ word_after-begun vars [] word h = h
 word_after-begun vars (b ∷ w) word h = word_after-begun vars w (extended vars word b) (extended-begun vars word b)
 
 -- a word that has begun ends as its token
-word_step-begun : (s : State) (word : Word) → IsBegun word → word_step s word ≡ token_step s (token_of s.limits.vars word)
+word_step-begun : (s : Reader) (word : Word) → IsBegun word → word_step s word ≡ token_step s (token_of s.limits.vars word)
 unfolding word_step
 word_step-begun s Empty h = absurd h
 word_step-begun s Minus h = refl
@@ -61,7 +61,7 @@ Leads whole limits after tail commands r (Goes s cs) = r ≡ rest_at whole limit
 Leads whole limits after tail commands r (Fails refusal cs) = r ≡ record { commands = commands ++ cs; end = Refused refusal }
 
 -- the end of a token leads to what follows it
-leads_token : (whole : Bool) (after : ℕ) (tail : List ℕ) (commands : List Command) (s : State) (t : Token) (r : Reading)
+leads_token : (whole : Bool) (after : ℕ) (tail : List ℕ) (commands : List Command) (s : Reader) (t : Token) (r : Reading)
     → r ≡ after_token whole s.limits after commands (listing_in s) tail t → Leads whole s.limits after tail commands r (token_step s t)
 unfolding token_step
 leads_token whole after tail commands s Ending r e = unfold rest_at in e
@@ -78,25 +78,25 @@ leads_token whole after tail commands s TooLarge r e = rw append-nil e
 leads_token whole after tail commands s NoLiteral r e = rw append-nil e
 
 -- The token that has come ends, by a blank or the text's end.
-leads_word : (text : List ℕ) (commands : List Command) (st : State) (stands : Stands text commands st) (whole : Bool) (tail : List ℕ) → IsApart tail → whole || is_there tail ≡ true
+leads_word : (text : List ℕ) (commands : List Command) (st : Reader) (resumes : Resumes text commands st) (whole : Bool) (tail : List ℕ) → IsApart tail → whole || is_there tail ≡ true
     → Leads whole st.limits st.place tail commands (read whole st.limits (text ++ tail)) (word_step st st.word)
 unfolding word_step word_after
-leads_word text commands st stands whole tail apart known = go stands.held stands.is_text stands.solid stands.word stands.place
+leads_word text commands st resumes whole tail apart known = go resumes.held resumes.is_text resumes.solid resumes.word resumes.place
   where
-    again : (held : List ℕ) → text ≡ stands.done ++ held → read whole st.limits (text ++ tail) ≡ rest_at whole st.limits stands.start commands st.in_clause (listing_in st) (held ++ tail)
-    again held e = ap (λ t. read whole st.limits (t ++ tail)) e ∙ (ap (read whole st.limits) (append_assoc stands.done held tail) ∙ stands.rest whole (held ++ tail))
+    again : (held : List ℕ) → text ≡ resumes.done ++ held → read whole st.limits (text ++ tail) ≡ rest_at whole st.limits resumes.start commands st.in_clause (listing_in st) (held ++ tail)
+    again held e = ap (λ t. read whole st.limits (t ++ tail)) e ∙ (ap (read whole st.limits) (append_assoc resumes.done held tail) ∙ resumes.rest whole (held ++ tail))
 
-    go : (held : List ℕ) → text ≡ stands.done ++ held → IsSolid held → st.word ≡ word_after st.limits.vars Empty held → st.place ≡ stands.start + length held
+    go : (held : List ℕ) → text ≡ resumes.done ++ held → IsSolid held → st.word ≡ word_after st.limits.vars Empty held → st.place ≡ resumes.start + length held
         → Leads whole st.limits st.place tail commands (read whole st.limits (text ++ tail)) (word_step st st.word)
     go [] e s w p =
-        let q : st.place ≡ stands.start = omega arith in
+        let q : st.place ≡ resumes.start = omega arith in
         let r : read whole st.limits (text ++ tail) ≡ rest_at whole st.limits st.place (commands ++ []) st.in_clause (listing_in st) tail = rw (append-nil, q) (again [] e) in
         let F : Word → Type 0 = λ x. Leads whole st.limits st.place tail commands (read whole st.limits (text ++ tail)) (word_step st x) in
         subst F (sym w) r
     go (b ∷ bs) e s w p =
         let held : Word = word_after st.limits.vars Empty (b ∷ bs) in
         let begun : IsBegun held = word_after-begun st.limits.vars bs (extended st.limits.vars Empty b) (extended-begun st.limits.vars Empty b) in
-        let r = again (b ∷ bs) e ∙ rest-token whole st.limits stands.start st.place commands st.in_clause (listing_in st) b bs tail s apart known stands.fresh p in
+        let r = again (b ∷ bs) e ∙ rest-token whole st.limits resumes.start st.place commands st.in_clause (listing_in st) b bs tail s apart known resumes.fresh p in
         let l = leads_token whole st.place tail commands st (literal_token st.limits.vars (b ∷ bs)) _ r in
         let k : word_step st held ≡ token_step st (literal_token st.limits.vars (b ∷ bs)) = word_step-begun st held begun ∙ ap (token_step st) (sym (literal_token-held st.limits.vars b bs)) in
         let G : Step → Type 0 = λ x. Leads whole st.limits st.place tail commands (read whole st.limits (text ++ tail)) x in
@@ -123,24 +123,24 @@ refuses limits front more commands r l h = go (nat_le (length (front ++ more)) l
     go false = ap (λ x. cut_off x x.end) short
 
 -- What is behind the front that has come isn't judged: the front alone has these commands, and more may come.
-pub stands-open : (text : List ℕ) (commands : List Command) (st : State) → Stands text commands st → read false st.limits text ≡ record { commands = commands; end = Open }
-stands-open text commands st stands = go stands.held stands.is_text stands.solid
+pub resumes-open : (text : List ℕ) (commands : List Command) (st : Reader) → Resumes text commands st → read false st.limits text ≡ record { commands = commands; end = Open }
+resumes-open text commands st resumes = go resumes.held resumes.is_text resumes.solid
   where
-    go : (held : List ℕ) → text ≡ stands.done ++ held → IsSolid held → read false st.limits text ≡ record { commands = commands; end = Open }
-    go held e s = ap (read false st.limits) e ∙ (stands.rest false held ∙ rest-open st.limits stands.start commands st.in_clause (listing_in st) held s stands.fresh)
+    go : (held : List ℕ) → text ≡ resumes.done ++ held → IsSolid held → read false st.limits text ≡ record { commands = commands; end = Open }
+    go held e s = ap (read false st.limits) e ∙ (resumes.rest false held ∙ rest-open st.limits resumes.start commands st.in_clause (listing_in st) held s resumes.fresh)
 
 -- what a step makes of a text, with the byte that came or at its end
-abbrev pub Follows : State → List ℕ → List Command → Step → Type 0
-Follows old text commands (Goes s cs) = Stands text (commands ++ cs) s × (s.limits ≡ old.limits) × (s.stage ≡ old.stage)
+abbrev pub Follows : Reader → List ℕ → List Command → Step → Type 0
+Follows old text commands (Goes s cs) = Resumes text (commands ++ cs) s × (s.limits ≡ old.limits) × (s.stage ≡ old.stage)
 Follows old text commands (Fails r cs) = (more : List ℕ) → reading_of old.limits (text ++ more) ≡ record { commands = commands ++ cs; end = Refused r }
 
 -- what a word leaves
-abbrev Leaves : State → Step → Type 0
+abbrev Leaves : Reader → Step → Type 0
 Leaves old (Goes s cs) = (s.limits ≡ old.limits) × (s.word ≡ Empty) × (s.in_clause ≡ false → s.lits ≡ []) × (s.stage ≡ old.stage)
 Leaves old (Fails r cs) = Unit {0}
 
 -- what the end of a token leaves
-token_leaves : (s : State) (t : Token) → Leaves s (token_step s t)
+token_leaves : (s : Reader) (t : Token) → Leaves s (token_step s t)
 unfolding token_step
 token_leaves s Ending = (refl, refl, λ _. refl, refl)
 token_leaves s (Literal lit) = go (nat_lt s.count s.limits.lits)
@@ -155,7 +155,7 @@ token_leaves s TooLarge = tt
 token_leaves s NoLiteral = tt
 
 -- what the end of a word leaves
-word_leaves : (s : State) (word : Word) → s.word ≡ word → (s.in_clause ≡ false → s.lits ≡ []) → Leaves s (word_step s word)
+word_leaves : (s : Reader) (word : Word) → s.word ≡ word → (s.in_clause ≡ false → s.lits ≡ []) → Leaves s (word_step s word)
 unfolding word_step
 word_leaves s Empty h f = (refl, h, f, refl)
 word_leaves s Minus h f = token_leaves s (token_of s.limits.vars Minus)
@@ -168,32 +168,32 @@ solid_push [] b s h = (h, tt)
 solid_push (x ∷ w) b s h = (s.0, solid_push w b s.1 h)
 
 -- a byte that is no blank
-solid_follows : (text : List ℕ) (commands : List Command) (st : State) (b : ℕ) → Stands text commands st → is_blank b ≡ false → st.place < st.limits.input
+solid_follows : (text : List ℕ) (commands : List Command) (st : Reader) (b : ℕ) → Resumes text commands st → is_blank b ≡ false → st.place < st.limits.input
     → Follows st (text ++ b ∷ []) commands (Goes (record st { place = suc st.place; word = extended st.limits.vars st.word b }) [])
-solid_follows text commands st b stands h l = (
+solid_follows text commands st b resumes h l = (
   record {
-    done = stands.done;
-    held = stands.held ++ b ∷ [];
-    start = stands.start;
-    is_text = ap (λ t. t ++ b ∷ []) stands.is_text ∙ append_assoc stands.done stands.held (b ∷ []);
-    solid = solid_push stands.held b stands.solid h;
-    word = ap (λ w. extended st.limits.vars w b) stands.word ∙ sym (word_after-push st.limits.vars Empty stands.held b);
-    place = omega (arith, stands.place, length-append stands.held (b ∷ []));
-    taken = omega (arith, stands.taken, length-append text (b ∷ []));
+    done = resumes.done;
+    held = resumes.held ++ b ∷ [];
+    start = resumes.start;
+    is_text = ap (λ t. t ++ b ∷ []) resumes.is_text ∙ append_assoc resumes.done resumes.held (b ∷ []);
+    solid = solid_push resumes.held b resumes.solid h;
+    word = ap (λ w. extended st.limits.vars w b) resumes.word ∙ sym (word_after-push st.limits.vars Empty resumes.held b);
+    place = omega (arith, resumes.place, length-append resumes.held (b ∷ []));
+    taken = omega (arith, resumes.taken, length-append text (b ∷ []));
     fits = omega arith;
-    fresh = stands.fresh;
-    rest = λ whole tail. rw append-nil (stands.rest whole tail);
+    fresh = resumes.fresh;
+    rest = λ whole tail. rw append-nil (resumes.rest whole tail);
   },
   refl,
   refl,
 )
 
 -- a blank, behind a token or not
-blank_follows : (text : List ℕ) (commands : List Command) (st : State) (b : ℕ) → Stands text commands st → is_blank b ≡ true → st.place < st.limits.input → (step : Step)
+blank_follows : (text : List ℕ) (commands : List Command) (st : Reader) (b : ℕ) → Resumes text commands st → is_blank b ≡ true → st.place < st.limits.input → (step : Step)
     → ((whole : Bool) (tail : List ℕ) → Leads whole st.limits st.place (b ∷ tail) commands (read whole st.limits (text ++ b ∷ tail)) step) → Leaves st step
     → Follows st (text ++ b ∷ []) commands (past_blank st.place step)
 unfolding word_after
-blank_follows text commands st b stands h l (Goes s cs) leads leaves = (
+blank_follows text commands st b resumes h l (Goes s cs) leads leaves = (
   record {
     done = text ++ b ∷ [];
     held = [];
@@ -202,7 +202,7 @@ blank_follows text commands st b stands h l (Goes s cs) leads leaves = (
     solid = tt;
     word = leaves.1;
     place = omega arith;
-    taken = omega (arith, stands.taken, length-append text (b ∷ []));
+    taken = omega (arith, resumes.taken, length-append text (b ∷ []));
     fits = rw (leaves.0) (omega arith);
     fresh = leaves.2;
     rest = λ whole tail. rw (append_assoc, leaves.0) (leads whole tail ∙ rest-blank whole st.limits st.place (commands ++ cs) s.in_clause (listing_in s) b tail h);
@@ -210,33 +210,33 @@ blank_follows text commands st b stands h l (Goes s cs) leads leaves = (
   leaves.0,
   leaves.3,
 )
-blank_follows text commands st b stands h l (Fails r cs) leads leaves = λ more.
-    refuses st.limits (text ++ b ∷ []) more (commands ++ cs) r (omega (arith, stands.taken, length-append text (b ∷ []))) (λ whole tail. ap (read whole st.limits) (append_assoc text (b ∷ []) tail) ∙ leads whole tail)
+blank_follows text commands st b resumes h l (Fails r cs) leads leaves = λ more.
+    refuses st.limits (text ++ b ∷ []) more (commands ++ cs) r (omega (arith, resumes.taken, length-append text (b ∷ []))) (λ whole tail. ap (read whole st.limits) (append_assoc text (b ∷ []) tail) ∙ leads whole tail)
 
 -- a byte past the limit
-long_follows : (text : List ℕ) (commands : List Command) (st : State) (b : ℕ) → Stands text commands st → st.limits.input ≤ st.place
+long_follows : (text : List ℕ) (commands : List Command) (st : Reader) (b : ℕ) → Resumes text commands st → st.limits.input ≤ st.place
     → Follows st (text ++ b ∷ []) commands (Fails NotPlain [])
 unfolding reading_of
-long_follows text commands st b stands l more = go (nat_le (length (text ++ b ∷ [] ++ more)) st.limits.input) refl
+long_follows text commands st b resumes l more = go (nat_le (length (text ++ b ∷ [] ++ more)) st.limits.input) refl
   where
     cut : take st.limits.input (text ++ b ∷ [] ++ more) ≡ text
-    cut = let e : st.limits.input ≡ length text = omega (arith, stands.taken, stands.fits) in
+    cut = let e : st.limits.input ≡ length text = omega (arith, resumes.taken, resumes.fits) in
         ap (λ t. take st.limits.input t) (append_assoc text (b ∷ []) more) ∙ (ap (λ n. take n (text ++ b ∷ more)) e ∙ take-append_seam text (b ∷ more))
 
     short : read false st.limits (take st.limits.input (text ++ b ∷ [] ++ more)) ≡ record { commands = commands; end = Open }
-    short = ap (read false st.limits) cut ∙ stands-open text commands st stands
+    short = ap (read false st.limits) cut ∙ resumes-open text commands st resumes
 
     go : (v : Bool) → nat_le (length (text ++ b ∷ [] ++ more)) st.limits.input ≡ v → ◌≡◌ {A = Reading} (elim v [
       | true ↦ read true st.limits (text ++ b ∷ [] ++ more)
       | false ↦ cut_off (read false st.limits (take st.limits.input (text ++ b ∷ [] ++ more))) (read false st.limits (take st.limits.input (text ++ b ∷ [] ++ more))).end
     ]) (record { commands = commands ++ []; end = Refused NotPlain })
-    go true e = absurd (omega (arith, leb-true _ _ e, stands.taken, length-append (text ++ b ∷ []) more, length-append text (b ∷ [])))
+    go true e = absurd (omega (arith, leb-true _ _ e, resumes.taken, length-append (text ++ b ∷ []) more, length-append text (b ∷ [])))
     go false e = rw append-nil (ap (λ x. cut_off x x.end) short)
 
 -- The reader's step at a byte.
-pub byte-follows : (text : List ℕ) (commands : List Command) (st : State) (b : ℕ) → Stands text commands st → Follows st (text ++ b ∷ []) commands (byte_step st b)
+pub byte-follows : (text : List ℕ) (commands : List Command) (st : Reader) (b : ℕ) → Resumes text commands st → Follows st (text ++ b ∷ []) commands (byte_step st b)
 unfolding byte_step
-byte-follows text commands st b stands = go (nat_lt st.place st.limits.input) (is_blank b) refl refl
+byte-follows text commands st b resumes = go (nat_lt st.place st.limits.input) (is_blank b) refl refl
   where
     go : (u v : Bool) → nat_lt st.place st.limits.input ≡ u → is_blank b ≡ v → Follows st (text ++ b ∷ []) commands (elim u [
       | true ↦ elim v [
@@ -245,12 +245,12 @@ byte-follows text commands st b stands = go (nat_lt st.place st.limits.input) (i
       ]
       | false ↦ Fails NotPlain []
     ])
-    go true true e h = blank_follows text commands st b stands h (ltb-true _ _ e) (word_step st st.word) (λ whole tail. leads_word text commands st stands whole (b ∷ tail) h (or-true whole)) (word_leaves st st.word refl stands.fresh)
-    go true false e h = solid_follows text commands st b stands h (ltb-true _ _ e)
-    go false v e h = long_follows text commands st b stands (ltb-false _ _ e)
+    go true true e h = blank_follows text commands st b resumes h (ltb-true _ _ e) (word_step st st.word) (λ whole tail. leads_word text commands st resumes whole (b ∷ tail) h (or-true whole)) (word_leaves st st.word refl resumes.fresh)
+    go true false e h = solid_follows text commands st b resumes h (ltb-true _ _ e)
+    go false v e h = long_follows text commands st b resumes (ltb-false _ _ e)
 
 -- what the end of a text makes of it
-abbrev pub EndsAs : State → List ℕ → List Command → Step → Type 0
+abbrev pub EndsAs : Reader → List ℕ → List Command → Step → Type 0
 EndsAs old text commands (Goes s cs) = reading_of old.limits text ≡ record { commands = commands ++ cs; end = Ended }
 EndsAs old text commands (Fails r cs) = reading_of old.limits text ≡ record { commands = commands ++ cs; end = Refused r }
 
@@ -260,7 +260,7 @@ unfolding reading_of
 whole_reading limits text h = elim_true (nat_le (length text) limits.input) (read true limits text) _ (le-leb _ _ h)
 
 -- where the text ends no clause may be open
-end_leads : (text : List ℕ) (commands : List Command) (st : State) → reading_of st.limits text ≡ read true st.limits (text ++ []) → (step : Step)
+end_leads : (text : List ℕ) (commands : List Command) (st : Reader) → reading_of st.limits text ≡ read true st.limits (text ++ []) → (step : Step)
     → Leads true st.limits st.place [] commands (read true st.limits (text ++ [])) step → EndsAs st text commands (at_end step)
 unfolding rest_at closed literals walk literals_end reading_from text_end
 end_leads text commands st e (Goes s cs) leads = go s.in_clause (e ∙ leads)
@@ -271,8 +271,8 @@ end_leads text commands st e (Goes s cs) leads = go s.in_clause (e ∙ leads)
 end_leads text commands st e (Fails r cs) leads = e ∙ leads
 
 -- The reader's step at the text's end.
-pub end-follows : (text : List ℕ) (commands : List Command) (st : State) → Stands text commands st → EndsAs st text commands (end_step st)
+pub end-follows : (text : List ℕ) (commands : List Command) (st : Reader) → Resumes text commands st → EndsAs st text commands (end_step st)
 unfolding end_step
-end-follows text commands st stands =
-    let e : reading_of st.limits text ≡ read true st.limits (text ++ []) = whole_reading st.limits text (omega (arith, stands.taken, stands.fits)) ∙ ap (read true st.limits) (sym (append-nil text)) in
-    end_leads text commands st e (word_step st st.word) (leads_word text commands st stands true [] tt refl)
+end-follows text commands st resumes =
+    let e : reading_of st.limits text ≡ read true st.limits (text ++ []) = whole_reading st.limits text (omega (arith, resumes.taken, resumes.fits)) ∙ ap (read true st.limits) (sym (append-nil text)) in
+    end_leads text commands st e (word_step st st.word) (leads_word text commands st resumes true [] tt refl)

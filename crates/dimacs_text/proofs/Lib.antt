@@ -3,7 +3,7 @@ pub mod Words
 pub mod Literals
 pub mod Feed
 pub mod Fronts
-pub mod Ends
+pub mod Endings
 pub mod Bounds
 pub mod Calls
 pub mod Printed

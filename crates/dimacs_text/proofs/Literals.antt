@@ -1,15 +1,15 @@
 -- The literals of a clause, token by token.
 use Rattle.std.proofs.Common.{◌≡◌, ℕ, suc, ◌+◌, ◌<◌, Bool, true, false, ◌||◌, List, [], ◌∷◌, ◌++◌, length, nat_lt, refl, sym, ◌∙◌, ap, append-nil, arith}
-use Rattle.dimacs_text.specs.Walk.{is_blank, word, after_word, Next, Stop, turned, walk}
+use Rattle.dimacs_text.specs.Walk.{is_blank, word, after_word, Next, Last, advanced, walk}
 use Rattle.dimacs_text.specs.Tokens.{literal_token, is_judged, is_there}
-use Rattle.dimacs_text.specs.Grammar.{Sofar, Listing, Literals, Listed, Broken, Refused, Open, Reading, reading_from, literals, literal_met, literal_turn, literals_end, phrase, clause_turn, listing_of, text_end, with_clause, with_literal}
-use Rattle.dimacs_text.specs.Stands.{IsSolid, closed, rest_at}
+use Rattle.dimacs_text.specs.Grammar.{Sofar, Listing, Literals, Listed, Broken, Refused, Open, Reading, reading_from, literals, literal_met, literal_advance, literals_end, phrase, clause_advance, listing_of, text_end, with_clause, with_literal}
+use Rattle.dimacs_text.specs.Resuming.{IsSolid, closed, rest_at}
 use Rattle.dimacs_text.specs.declared.token.Token.{Token}
 use Rattle.dimacs_text.specs.declared.token.Token.TheVariants.{Ending, Literal, TooLarge, NoLiteral}
 use Rattle.sat_lits.specs.Limits.{LimitNumbers}
 use Rattle.dimacs_text.specs.declared.command.Command.{Command}
 use Rattle.dimacs_text.specs.declared.refusal.Refusal.TheVariants.{NotPlain}
-use Rattle.dimacs_text.proofs.Walks.{IsApart, IfStop, elim_true, elim_false, word-solid, after_word-solid, walk-all, walk-stop, walk-past, walk-skip, walk-skips, walk-past_blank, walk-met}
+use Rattle.dimacs_text.proofs.Walks.{IsApart, IfLast, elim_true, elim_false, word-solid, after_word-solid, walk-all, walk-last, walk-past, walk-skip, walk-skips, walk-past_blank, walk-met}
 
 -- the place after the list
 abbrev pub IsBeyond : ℕ → Literals → Type 0
@@ -28,12 +28,12 @@ beyond_end true place l = tt
 beyond_end false place l = tt
 
 -- at a token
-beyond_met : (limits : LimitNumbers) (place after : ℕ) (l : Listing) (t : Token) → place < after → IfStop (literal_met limits after l t) (IsBeyond place)
+beyond_met : (limits : LimitNumbers) (place after : ℕ) (l : Listing) (t : Token) → place < after → IfLast (literal_met limits after l t) (IsBeyond place)
 unfolding literal_met
 beyond_met limits place after l Ending h = h
 beyond_met limits place after l (Literal lit) h = go (nat_lt l.count limits.lits)
   where
-    go : (v : Bool) → IfStop (elim v [ true ↦ Next after (with_literal l lit) | false ↦ Stop (Broken (Refused NotPlain)) ]) (IsBeyond place)
+    go : (v : Bool) → IfLast (elim v [ true ↦ Next after (with_literal l lit) | false ↦ Last (Broken (Refused NotPlain)) ]) (IsBeyond place)
     go true = tt
     go false = tt
 beyond_met limits place after l TooLarge h = tt
@@ -45,28 +45,28 @@ unfolding word
 length_word b bs h = let e : word (b ∷ bs) ≡ b ∷ word bs = elim_false (is_blank b) [] (b ∷ word bs) h in rw e (omega arith)
 
 -- at the token at the front of a text
-beyond_turn : (whole : Bool) (limits : LimitNumbers) (place : ℕ) (l : Listing) (b : ℕ) (bs : List ℕ) → is_blank b ≡ false → IfStop (literal_turn whole limits place l (b ∷ bs)) (IsBeyond place)
-unfolding literal_turn
-beyond_turn whole limits place l b bs h = go (is_judged whole (b ∷ bs)) (beyond_met limits place _ l (literal_token limits.vars (word (b ∷ bs))) (omega (arith, length_word b bs h)))
+beyond_advance : (whole : Bool) (limits : LimitNumbers) (place : ℕ) (l : Listing) (b : ℕ) (bs : List ℕ) → is_blank b ≡ false → IfLast (literal_advance whole limits place l (b ∷ bs)) (IsBeyond place)
+unfolding literal_advance
+beyond_advance whole limits place l b bs h = go (is_judged whole (b ∷ bs)) (beyond_met limits place _ l (literal_token limits.vars (word (b ∷ bs))) (omega (arith, length_word b bs h)))
   where
-    go : (v : Bool) → IfStop (literal_met limits (place + length (word (b ∷ bs))) l (literal_token limits.vars (word (b ∷ bs)))) (IsBeyond place)
-        → IfStop (elim v [ true ↦ literal_met limits (place + length (word (b ∷ bs))) l (literal_token limits.vars (word (b ∷ bs))) | false ↦ Stop (Broken Open) ]) (IsBeyond place)
+    go : (v : Bool) → IfLast (literal_met limits (place + length (word (b ∷ bs))) l (literal_token limits.vars (word (b ∷ bs)))) (IsBeyond place)
+        → IfLast (elim v [ true ↦ literal_met limits (place + length (word (b ∷ bs))) l (literal_token limits.vars (word (b ∷ bs))) | false ↦ Last (Broken Open) ]) (IsBeyond place)
     go true p = p
     go false p = tt
 
 -- a list ends after the place where it begins
 pub literals-beyond : (whole : Bool) (limits : LimitNumbers) (place : ℕ) (l : Listing) (text : List ℕ) → IsBeyond place (literals whole limits place l text)
 unfolding literals
-literals-beyond whole limits place l text = walk-all (literal_turn whole limits) (literals_end whole) IsBeyond (beyond_end whole) (beyond_turn whole limits) beyond_down text place place l
+literals-beyond whole limits place l text = walk-all (literal_advance whole limits) (literals_end whole) IsBeyond (beyond_end whole) (beyond_advance whole limits) beyond_down text place place l
 
 -- a token that is judged
-turn-judged : (whole : Bool) (limits : LimitNumbers) (place : ℕ) (l : Listing) (w tail : List ℕ) → IsSolid w → IsApart tail → whole || is_there tail ≡ true
-    → literal_turn whole limits place l (w ++ tail) ≡ literal_met limits (place + length w) l (literal_token limits.vars w)
-unfolding literal_turn is_judged
-turn-judged whole limits place l w tail s t k =
+advance-judged : (whole : Bool) (limits : LimitNumbers) (place : ℕ) (l : Listing) (w tail : List ℕ) → IsSolid w → IsApart tail → whole || is_there tail ≡ true
+    → literal_advance whole limits place l (w ++ tail) ≡ literal_met limits (place + length w) l (literal_token limits.vars w)
+unfolding literal_advance is_judged
+advance-judged whole limits place l w tail s t k =
     let j : whole || is_there (after_word (w ++ tail)) ≡ true = rw (after_word-solid w tail s t) k in
     let e = word-solid w tail s t in
-    elim_true (whole || is_there (after_word (w ++ tail))) _ (Stop (Broken Open)) j ∙ ap (λ v. literal_met limits (place + length v) l (literal_token limits.vars v)) e
+    elim_true (whole || is_there (after_word (w ++ tail))) _ (Last (Broken Open)) j ∙ ap (λ v. literal_met limits (place + length v) l (literal_token limits.vars v)) e
 
 -- the reading goes on behind a list, over a text that has come
 pub closed-past : (whole : Bool) (limits : LimitNumbers) (place : ℕ) (commands : List Command) (w tail : List ℕ) (r : Literals) (after : ℕ) → after ≡ place + length w → IsBeyond after r
@@ -83,7 +83,7 @@ unfolding reading_from phrase closed
 begin_clause whole limits place s b bs h =
     walk-met (phrase whole limits) (text_end whole) place place s b bs (omega arith) h ∙ go (literals whole limits place (listing_of s) (b ∷ bs)) (literals-beyond whole limits place (listing_of s) (b ∷ bs))
   where
-    go : (r : Literals) → IsBeyond place r → turned (clause_turn s.commands r) (λ next' a'. walk (phrase whole limits) (text_end whole) next' (suc place) a' bs) ≡ closed whole limits place s.commands (b ∷ bs) r
+    go : (r : Literals) → IsBeyond place r → advanced (clause_advance s.commands r) (λ next' a'. walk (phrase whole limits) (text_end whole) next' (suc place) a' bs) ≡ closed whole limits place s.commands (b ∷ bs) r
     go (Listed l after) p = sym (walk-skip (phrase whole limits) (text_end whole) after place (with_clause s.commands l) b bs p)
     go (Broken end) p = refl
 
@@ -99,23 +99,23 @@ after_token whole limits after commands l tail NoLiteral = record { commands = c
 
 -- a token that is judged, where a list is open
 list_token : (whole : Bool) (limits : LimitNumbers) (place after : ℕ) (commands : List Command) (l : Listing) (b : ℕ) (w tail : List ℕ) → IsSolid (b ∷ w) → after ≡ place + length (b ∷ w) → (t : Token)
-    → literal_turn whole limits place l (b ∷ (w ++ tail)) ≡ literal_met limits after l t
+    → literal_advance whole limits place l (b ∷ (w ++ tail)) ≡ literal_met limits after l t
     → closed whole limits place commands (b ∷ (w ++ tail)) (literals whole limits place l (b ∷ (w ++ tail))) ≡ after_token whole limits after commands l tail t
 unfolding literals literal_met closed reading_from rest_at
 list_token whole limits place after commands l b w tail s n Ending e =
-    ap (closed whole limits place commands (b ∷ (w ++ tail))) (walk-stop (literal_turn whole limits) (literals_end whole) place l _ b (w ++ tail) s.0 e)
+    ap (closed whole limits place commands (b ∷ (w ++ tail))) (walk-last (literal_advance whole limits) (literals_end whole) place l _ b (w ++ tail) s.0 e)
     ∙ (walk-skips (phrase whole limits) (text_end whole) (b ∷ w) after place (with_clause commands l) tail (omega arith) ∙ ap (λ p. walk (phrase whole limits) (text_end whole) after p (with_clause commands l) tail) (sym n))
 list_token whole limits place after commands l b w tail s n (Literal lit) e = go (nat_lt l.count limits.lits) e
   where
-    go : (v : Bool) → literal_turn whole limits place l (b ∷ (w ++ tail)) ≡ elim v [ true ↦ Next after (with_literal l lit) | false ↦ Stop (Broken (Refused NotPlain)) ]
+    go : (v : Bool) → literal_advance whole limits place l (b ∷ (w ++ tail)) ≡ elim v [ true ↦ Next after (with_literal l lit) | false ↦ Last (Broken (Refused NotPlain)) ]
         → closed whole limits place commands (b ∷ (w ++ tail)) (literals whole limits place l (b ∷ (w ++ tail))) ≡ elim v [ true ↦ rest_at whole limits after commands true (with_literal l lit) tail | false ↦ record { commands = commands; end = Refused NotPlain } ]
-    go true h = ap (closed whole limits place commands (b ∷ (w ++ tail))) (walk-past (literal_turn whole limits) (literals_end whole) place after l (with_literal l lit) b w tail s.0 h n)
+    go true h = ap (closed whole limits place commands (b ∷ (w ++ tail))) (walk-past (literal_advance whole limits) (literals_end whole) place after l (with_literal l lit) b w tail s.0 h n)
         ∙ closed-past whole limits place commands (b ∷ w) tail (literals whole limits after (with_literal l lit) tail) after n (literals-beyond whole limits after (with_literal l lit) tail)
-    go false h = ap (closed whole limits place commands (b ∷ (w ++ tail))) (walk-stop (literal_turn whole limits) (literals_end whole) place l _ b (w ++ tail) s.0 h)
+    go false h = ap (closed whole limits place commands (b ∷ (w ++ tail))) (walk-last (literal_advance whole limits) (literals_end whole) place l _ b (w ++ tail) s.0 h)
 list_token whole limits place after commands l b w tail s n TooLarge e =
-    ap (closed whole limits place commands (b ∷ (w ++ tail))) (walk-stop (literal_turn whole limits) (literals_end whole) place l _ b (w ++ tail) s.0 e)
+    ap (closed whole limits place commands (b ∷ (w ++ tail))) (walk-last (literal_advance whole limits) (literals_end whole) place l _ b (w ++ tail) s.0 e)
 list_token whole limits place after commands l b w tail s n NoLiteral e =
-    ap (closed whole limits place commands (b ∷ (w ++ tail))) (walk-stop (literal_turn whole limits) (literals_end whole) place l _ b (w ++ tail) s.0 e)
+    ap (closed whole limits place commands (b ∷ (w ++ tail))) (walk-last (literal_advance whole limits) (literals_end whole) place l _ b (w ++ tail) s.0 e)
 
 -- a byte that is no blank begins a list where none is open
 open_list : (whole : Bool) (limits : LimitNumbers) (place : ℕ) (commands : List Command) (in_clause : Bool) (l : Listing) (b : ℕ) (bs : List ℕ) → is_blank b ≡ false → (in_clause ≡ false → l.lits ≡ [])
@@ -132,7 +132,7 @@ pub rest-token : (whole : Bool) (limits : LimitNumbers) (place after : ℕ) (com
     → whole || is_there tail ≡ true → (in_clause ≡ false → l.lits ≡ []) → after ≡ place + length (b ∷ w)
     → rest_at whole limits place commands in_clause l (b ∷ (w ++ tail)) ≡ after_token whole limits after commands l tail (literal_token limits.vars (b ∷ w))
 rest-token whole limits place after commands in_clause l b w tail s t k f n =
-    let e = turn-judged whole limits place l (b ∷ w) tail s t k in
+    let e = advance-judged whole limits place l (b ∷ w) tail s t k in
     open_list whole limits place commands in_clause l b (w ++ tail) s.0 f
     ∙ list_token whole limits place after commands l b w tail s n (literal_token limits.vars (b ∷ w)) (e ∙ ap (λ p. literal_met limits p l (literal_token limits.vars (b ∷ w))) (sym n))
 
@@ -142,22 +142,22 @@ pub rest-blank : (whole : Bool) (limits : LimitNumbers) (place : ℕ) (commands 
 unfolding rest_at reading_from literals
 rest-blank whole limits place commands false l b tail h = walk-past_blank (phrase whole limits) (text_end whole) place (record { commands = commands; count = l.count }) b tail h
 rest-blank whole limits place commands true l b tail h =
-    ap (closed whole limits place commands (b ∷ tail)) (walk-past_blank (literal_turn whole limits) (literals_end whole) place l b tail h)
+    ap (closed whole limits place commands (b ∷ tail)) (walk-past_blank (literal_advance whole limits) (literals_end whole) place l b tail h)
     ∙ closed-past whole limits place commands (b ∷ []) tail (literals whole limits (suc place) l tail) (suc place) (omega arith) (literals-beyond whole limits (suc place) l tail)
 
 -- A token that isn't judged, at the end of a front of a text, or nothing: more may come.
-turn-open : (limits : LimitNumbers) (place : ℕ) (l : Listing) (w : List ℕ) → IsSolid w → literal_turn false limits place l w ≡ Stop (Broken Open)
-unfolding literal_turn is_judged
-turn-open limits place l w s =
+advance-open : (limits : LimitNumbers) (place : ℕ) (l : Listing) (w : List ℕ) → IsSolid w → literal_advance false limits place l w ≡ Last (Broken Open)
+unfolding literal_advance is_judged
+advance-open limits place l w s =
     let e : after_word w ≡ [] = ap after_word (sym (append-nil w)) ∙ after_word-solid w [] s tt in
-    elim_false (is_there (after_word w)) _ (Stop (Broken Open)) (ap is_there e)
+    elim_false (is_there (after_word w)) _ (Last (Broken Open)) (ap is_there e)
 
 -- more of a list may come
 list-open : (limits : LimitNumbers) (place : ℕ) (commands : List Command) (l : Listing) (w text : List ℕ) → IsSolid w → closed false limits place commands text (literals false limits place l w) ≡ record { commands = commands; end = Open }
 unfolding literals closed walk literals_end
 list-open limits place commands l [] text s = refl
 list-open limits place commands l (b ∷ bs) text s =
-    ap (closed false limits place commands text) (walk-stop (literal_turn false limits) (literals_end false) place l (Broken Open) b bs s.0 (turn-open limits place l (b ∷ bs) s))
+    ap (closed false limits place commands text) (walk-last (literal_advance false limits) (literals_end false) place l (Broken Open) b bs s.0 (advance-open limits place l (b ∷ bs) s))
 
 -- more of the text may come
 pub rest-open : (limits : LimitNumbers) (place : ℕ) (commands : List Command) (in_clause : Bool) (l : Listing) (w : List ℕ) → IsSolid w → (in_clause ≡ false → l.lits ≡ [])

@@ -8,7 +8,7 @@ use Rattle.sat_lits.specs.declared.literal.Lit.{Lit}
 use Rattle.dimacs_text.specs.Walk.{walk, is_blank}
 use Rattle.dimacs_text.specs.Tokens.{literal_token}
 use Rattle.dimacs_text.specs.Grammar.{Listing, End, Ended, Refused, Reading, read, reading_of, reading_from, literals, literals_end, text_end, with_literal}
-use Rattle.dimacs_text.specs.Stands.{IsSolid, rest_at, closed}
+use Rattle.dimacs_text.specs.Resuming.{IsSolid, rest_at, closed}
 use Rattle.dimacs_text.specs.Plain.{token_in, tokens_after, kinds_of, is_literal_token, is_literal, IsPlain}
 use Rattle.dimacs_text.specs.declared.token.Token.{Token}
 use Rattle.dimacs_text.specs.declared.token.Token.TheVariants.{Ending, Literal, TooLarge, NoLiteral}
@@ -16,7 +16,7 @@ use Rattle.dimacs_text.specs.declared.command.Command.{Command}
 use Rattle.dimacs_text.specs.declared.command.Command.TheVariants.{Clause}
 use Rattle.dimacs_text.specs.declared.refusal.Refusal.TheVariants.{NotPlain}
 use Rattle.dimacs_text.proofs.Walks.{IsApart, elim_true}
-use Rattle.dimacs_text.proofs.Ends.{ended-short}
+use Rattle.dimacs_text.proofs.Endings.{ended-short}
 use Rattle.dimacs_text.proofs.Literals.{after_token, rest-token, rest-blank}
 use Rattle.dimacs_text.proofs.Feed.{solid_push, whole_reading}
 

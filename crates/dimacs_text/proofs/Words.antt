@@ -3,7 +3,7 @@ use Rattle.std.proofs.Common.{◌≡◌, ℕ, zero, suc, ◌+◌, ◌-◌, ◌*�
 use Rattle.std.proofs.lemmas.Bool.{le-ltb, ltb-true, ltb-false}
 use Rattle.dimacs_text.specs.Tokens.{is_digit, number_after, number, signed, literal_token}
 use Rattle.dimacs_text.specs.Steps.{extended, first_digit, token_of}
-use Rattle.dimacs_text.specs.Stands.{word_after}
+use Rattle.dimacs_text.specs.Resuming.{word_after}
 use Rattle.dimacs_text.specs.declared.token.Word.{Word}
 use Rattle.dimacs_text.specs.declared.token.Word.TheVariants.{Empty, Minus, Digits, NoNumber}
 use Rattle.dimacs_text.specs.declared.token.Token.TheVariants.{Literal, TooLarge}
@@ -57,7 +57,7 @@ first-held vars negative d ds = go (is_digit d)
     go true = digits-held vars negative ds (0 * 10 + (d - 48)) (d - 48) (inl (omega arith))
     go false = unfold signed token_of in sym (ap (token_of vars) (word-bad vars ds))
 
--- what stands behind a minus
+-- what resumes behind a minus
 number-held : (vars : ℕ) (ds : List ℕ) → signed vars true (number ds) ≡ token_of vars (word_after vars Minus ds)
 unfolding number word_after
 number-held vars [] = unfold signed token_of in refl

@@ -2,7 +2,7 @@
 use Rattle.std.specs.Prelude.{ℕ, suc, ◌+◌, Bool, true, false, List, [], ◌∷◌, ◌++◌, nat_lt, nat_le, length, take}
 use Rattle.sat_lits.specs.Limits.{LimitNumbers}
 use Rattle.sat_lits.specs.declared.literal.Lit.{Lit}
-use Rattle.dimacs_text.specs.Walk.{Turn, Next, Stop, walk, word}
+use Rattle.dimacs_text.specs.Walk.{Advance, Next, Last, walk, word}
 use Rattle.dimacs_text.specs.Tokens.{literal_token, is_judged}
 use Rattle.dimacs_text.specs.declared.token.Token.{Token}
 use Rattle.dimacs_text.specs.declared.token.Token.TheVariants.{Ending, Literal, TooLarge, NoLiteral}
@@ -42,17 +42,17 @@ abbrev pub with_literal : Listing → Lit → Listing
 with_literal l lit = record { lits = l.lits ++ lit ∷ []; count = suc l.count }
 
 -- a token is met where a clause is open; the last number is the place after it
-unfoldable pub literal_met : LimitNumbers → ℕ → Listing → Token → Turn Listing Literals
-literal_met limits after l Ending = Stop (Listed l after)
-literal_met limits after l (Literal lit) = elim (nat_lt l.count limits.lits) [ true ↦ Next after (with_literal l lit) | false ↦ Stop (Broken (Refused NotPlain)) ]
-literal_met limits after l TooLarge = Stop (Broken (Refused NotPlain))
-literal_met limits after l NoLiteral = Stop (Broken (Refused NotPlain))
+unfoldable pub literal_met : LimitNumbers → ℕ → Listing → Token → Advance Listing Literals
+literal_met limits after l Ending = Last (Listed l after)
+literal_met limits after l (Literal lit) = elim (nat_lt l.count limits.lits) [ true ↦ Next after (with_literal l lit) | false ↦ Last (Broken (Refused NotPlain)) ]
+literal_met limits after l TooLarge = Last (Broken (Refused NotPlain))
+literal_met limits after l NoLiteral = Last (Broken (Refused NotPlain))
 
 -- the token at the front of a text, where a clause is open
-unfoldable pub literal_turn : Bool → LimitNumbers → ℕ → Listing → List ℕ → Turn Listing Literals
-literal_turn whole limits place l text = elim (is_judged whole text) [
+unfoldable pub literal_advance : Bool → LimitNumbers → ℕ → Listing → List ℕ → Advance Listing Literals
+literal_advance whole limits place l text = elim (is_judged whole text) [
   | true ↦ literal_met limits (place + length (word text)) l (literal_token limits.vars (word text))
-  | false ↦ Stop (Broken Open)
+  | false ↦ Last (Broken Open)
 ]
 
 -- the text ends where a clause is open
@@ -62,7 +62,7 @@ literals_end false place l = Broken Open
 
 -- the literals of an open clause, from a place on
 unfoldable pub literals : Bool → LimitNumbers → ℕ → Listing → List ℕ → Literals
-literals whole limits place l text = walk (literal_turn whole limits) (literals_end whole) place place l text
+literals whole limits place l text = walk (literal_advance whole limits) (literals_end whole) place place l text
 
 -- a clause opens
 abbrev pub listing_of : Sofar → Listing
@@ -73,13 +73,13 @@ abbrev pub with_clause : List Command → Listing → Sofar
 with_clause commands l = record { commands = commands ++ Clause l.lits ∷ []; count = l.count }
 
 -- what the literals of a clause lead to
-abbrev pub clause_turn : List Command → Literals → Turn Sofar Reading
-clause_turn commands (Listed l after) = Next after (with_clause commands l)
-clause_turn commands (Broken end) = Stop (record { commands = commands; end = end })
+abbrev pub clause_advance : List Command → Literals → Advance Sofar Reading
+clause_advance commands (Listed l after) = Next after (with_clause commands l)
+clause_advance commands (Broken end) = Last (record { commands = commands; end = end })
 
 -- a phrase that begins here; there are clauses alone
-unfoldable pub phrase : Bool → LimitNumbers → ℕ → Sofar → List ℕ → Turn Sofar Reading
-phrase whole limits place s text = clause_turn s.commands (literals whole limits place (listing_of s) text)
+unfoldable pub phrase : Bool → LimitNumbers → ℕ → Sofar → List ℕ → Advance Sofar Reading
+phrase whole limits place s text = clause_advance s.commands (literals whole limits place (listing_of s) text)
 
 -- the text ends between two phrases
 unfoldable pub text_end : Bool → ℕ → Sofar → Reading
@@ -111,6 +111,10 @@ reading_of limits text = elim (nat_le (length text) limits.input) [
   | false ↦ (let r : Reading = read false limits (take limits.input text) in cut_off r r.end)
 ]
 
+-- what the bytes of a front within the limit say, where more may come; it stays open unless it is refused
+unfoldable pub front_reading : LimitNumbers → List ℕ → Reading
+front_reading limits text = read false limits (take limits.input text)
+
 -- the commands that a front of a text decides, however the text goes on
-unfoldable pub decided_of : LimitNumbers → List ℕ → List Command
-decided_of limits text = (read false limits (take limits.input text)).commands
+abbrev pub decided_of : LimitNumbers → List ℕ → List Command
+decided_of limits text = (front_reading limits text).commands

@@ -3,7 +3,7 @@ pub mod Tokens
 pub mod Grammar
 pub mod Steps
 pub mod Commands
-pub mod Stands
+pub mod Resuming
 pub mod Reads
 pub mod Texts
 pub mod Plain

@@ -1,11 +1,11 @@
 -- What callers know of a reader and the text that it was fed.
 use Rattle.std.specs.Prelude.{ℕ, ◌≡◌, ◌≤◌, List, ◌++◌, length, take}
 use Rattle.sat_lits.specs.Limits.{LimitNumbers}
-use Rattle.dimacs_text.specs.Grammar.{End, Ended, Refused, Open, reading_of, decided_of}
+use Rattle.dimacs_text.specs.Grammar.{End, Ended, Refused, Open, Reading, reading_of, front_reading, decided_of}
 use Rattle.dimacs_text.specs.Commands.{AreWithin}
-use Rattle.dimacs_text.specs.Stands.{Stands, Counts}
-use Rattle.dimacs_text.specs.declared.state.State.{State}
-use Rattle.dimacs_text.specs.declared.state.Stage.TheVariants.{Open as IsOpen, Ended as IsEnded, Failed}
+use Rattle.dimacs_text.specs.Resuming.{Resumes, Counts}
+use Rattle.dimacs_text.specs.declared.reader.Reader.{Reader}
+use Rattle.dimacs_text.specs.declared.reader.Stage.TheVariants.{Open as IsOpen, Ended as IsEnded, Failed}
 use Rattle.dimacs_text.specs.declared.refusal.ReadError.{ReadError}
 use Rattle.dimacs_text.specs.declared.refusal.Refusal.{Refusal}
 use Rattle.dimacs_text.specs.declared.command.Command.{Command}
@@ -17,31 +17,33 @@ IsClosed (Refused why) = Unit {0}
 IsClosed Open = ⊥
 
 -- the state of a reader with these limits that was fed a text and gave these commands
-pub record StandsIn (limits : LimitNumbers) (text : List ℕ) (given : List Command) (r : State) : Type 0 where
+pub record ResumesUnder (limits : LimitNumbers) (text : List ℕ) (given : List Command) (r : Reader) : Type 0 where
   pub limited : r.limits ≡ limits
   pub is_open : r.stage ≡ IsOpen
-  pub stands : Stands text given r
+  pub resumes : Resumes text given r
   pub counts : Counts given r
 
 -- a reader was fed this text, in whatever pieces, and gave these commands
-pub record HasRead (limits : LimitNumbers) (text : List ℕ) (given : List Command) (r : State) : Type 0 where
-  -- they are what the text decides, and the first commands of it however it goes on
+pub record HasRead (limits : LimitNumbers) (text : List ℕ) (given : List Command) (r : Reader) : Type 0 where
+  -- they are what the text decides, and the text is not refused so far
   pub decides : decided_of limits text ≡ given
+  pub unrefused : (front_reading limits text).end ≡ Open
+  -- they are the first commands of the text, however it goes on
   pub begins : (rest : List ℕ) → (more : List Command) × ((reading_of limits (text ++ rest)).commands ≡ given ++ more)
   -- however it goes on, it ends or is refused
   pub closes : (rest : List ℕ) → IsClosed (reading_of limits (text ++ rest)).end
   pub fits : length text ≤ limits.input
   pub within : AreWithin limits given
-  pub inside : StandsIn limits text given r
+  pub inside : ResumesUnder limits text given r
 
 -- a piece was taken, and these commands came of it
-pub record Gives (old new : State) (piece : List ℕ) (before now : List Command) : Type 0 where
+pub record Gives (old new : Reader) (piece : List ℕ) (before now : List Command) : Type 0 where
   pub commands : List Command
   pub added : now ≡ before ++ commands
   pub has_read : (limits : LimitNumbers) (text : List ℕ) (given : List Command) → HasRead limits text given old → HasRead limits (text ++ piece) (given ++ commands) new
 
 -- the text is refused within the piece, after these commands, however it goes on
-pub record Refuses (old : State) (piece : List ℕ) (before now : List Command) (why : Refusal) : Type 0 where
+pub record Refuses (old : Reader) (piece : List ℕ) (before now : List Command) (why : Refusal) : Type 0 where
   pub commands : List Command
   pub added : now ≡ before ++ commands
   pub final : (limits : LimitNumbers) (text : List ℕ) (given : List Command) → HasRead limits text given old
@@ -49,7 +51,7 @@ pub record Refuses (old : State) (piece : List ℕ) (before now : List Command) 
   pub within : (limits : LimitNumbers) (text : List ℕ) (given : List Command) → HasRead limits text given old → AreWithin limits (given ++ commands)
 
 -- memory ran out within the piece, after the commands that the text with a front of it decides
-pub record RunsOut (old : State) (piece : List ℕ) (before now : List Command) : Type 0 where
+pub record RunsOut (old : Reader) (piece : List ℕ) (before now : List Command) : Type 0 where
   pub commands : List Command
   pub added : now ≡ before ++ commands
   pub front : (limits : LimitNumbers) (text : List ℕ) (given : List Command) → HasRead limits text given old
@@ -57,7 +59,7 @@ pub record RunsOut (old : State) (piece : List ℕ) (before now : List Command) 
   pub within : (limits : LimitNumbers) (text : List ℕ) (given : List Command) → HasRead limits text given old → AreWithin limits (given ++ commands)
 
 -- the text ends here, and this is its reading
-pub record Ends (old : State) (before now : List Command) (end : End) : Type 0 where
+pub record Concludes (old : Reader) (before now : List Command) (end : End) : Type 0 where
   pub commands : List Command
   pub added : now ≡ before ++ commands
   pub whole : (limits : LimitNumbers) (text : List ℕ) (given : List Command) → HasRead limits text given old
@@ -65,9 +67,9 @@ pub record Ends (old : State) (before now : List Command) (end : End) : Type 0 w
   pub within : (limits : LimitNumbers) (text : List ℕ) (given : List Command) → HasRead limits text given old → AreWithin limits (given ++ commands)
 
 -- the reader's text has ended
-abbrev pub HasEnded : State → Type 0
+abbrev pub HasEnded : Reader → Type 0
 HasEnded r = r.stage ≡ IsEnded
 
 -- the reader answers this error from now on
-abbrev pub HasFailed : State → ReadError → Type 0
+abbrev pub HasFailed : Reader → ReadError → Type 0
 HasFailed r error = r.stage ≡ Failed error

@@ -6,7 +6,7 @@ use Rattle.dimacs_text.specs.declared.token.Token.{Token}
 use Rattle.dimacs_text.specs.declared.token.Token.TheVariants.{Ending, Literal, TooLarge, NoLiteral}
 use Rattle.dimacs_text.specs.declared.token.Word.{Word}
 use Rattle.dimacs_text.specs.declared.token.Word.TheVariants.{Empty, Minus, Digits, NoNumber}
-use Rattle.dimacs_text.specs.declared.state.State.{State}
+use Rattle.dimacs_text.specs.declared.reader.Reader.{Reader}
 use Rattle.dimacs_text.specs.declared.command.Command.{Command}
 use Rattle.dimacs_text.specs.declared.command.Command.TheVariants.{Clause}
 use Rattle.dimacs_text.specs.declared.refusal.ReadError.{ReadError}
@@ -34,11 +34,11 @@ token_of vars NoNumber = NoLiteral
 
 -- what a step leads to: a state or a refusal, and the commands that are added
 pub data Step : Type 0 where
-  Goes : State → List Command → Step
+  Goes : Reader → List Command → Step
   Fails : Refusal → List Command → Step
 
 -- a token ends
-unfoldable pub token_step : State → Token → Step
+unfoldable pub token_step : Reader → Token → Step
 token_step s Ending = Goes (record s { in_clause = false; lits = []; word = Empty }) (Clause s.lits ∷ [])
 token_step s (Literal lit) = elim (nat_lt s.count s.limits.lits) [
   | true ↦ Goes (record s { in_clause = true; lits = s.lits ++ lit ∷ []; count = suc s.count; word = Empty }) []
@@ -48,7 +48,7 @@ token_step s TooLarge = Fails NotPlain []
 token_step s NoLiteral = Fails NotPlain []
 
 -- the token that has begun ends, if there is one
-unfoldable pub word_step : State → Word → Step
+unfoldable pub word_step : Reader → Word → Step
 word_step s Empty = Goes s []
 word_step s w = token_step s (token_of s.limits.vars w)
 
@@ -58,7 +58,7 @@ past_blank place (Goes s cs) = Goes (record s { place = suc place }) cs
 past_blank place (Fails why cs) = Fails why cs
 
 -- a byte comes
-unfoldable pub byte_step : State → ℕ → Step
+unfoldable pub byte_step : Reader → ℕ → Step
 byte_step s b = elim (nat_lt s.place s.limits.input) [
   | true ↦ elim (is_blank b) [
     | true ↦ past_blank s.place (word_step s s.word)
@@ -73,11 +73,11 @@ at_end (Goes s cs) = elim s.in_clause [ true ↦ Fails NotPlain cs | false ↦ G
 at_end (Fails why cs) = Fails why cs
 
 -- the text ends
-unfoldable pub end_step : State → Step
+unfoldable pub end_step : Reader → Step
 end_step s = at_end (word_step s s.word)
 
 -- a call went on as the step says
-abbrev pub GoesTo : State → List Command → List Command → Step → Type 0
+abbrev pub GoesTo : Reader → List Command → List Command → Step → Type 0
 GoesTo new before now (Goes s cs) = (new ≡ s) × (now ≡ before ++ cs)
 GoesTo new before now (Fails why cs) = ⊥
 
@@ -87,7 +87,7 @@ FailsAs refusal before now (Goes s cs) = ⊥
 FailsAs refusal before now (Fails why cs) = (refusal ≡ why) × (now ≡ before ++ cs)
 
 -- what a call did is what the step says, or memory ran out and no command was added
-abbrev pub Does : {X : Type 0} → Result X ReadError → State → List Command → List Command → Step → Type 0
+abbrev pub Does : {X : Type 0} → Result X ReadError → Reader → List Command → List Command → Step → Type 0
 Does (Ok x) new before now step = GoesTo new before now step
 Does (Err (Refused refusal)) new before now step = FailsAs refusal before now step
 Does (Err Memory) new before now step = now ≡ before

@@ -6,7 +6,6 @@ mod plain;
 mod print;
 mod reader;
 mod refusal;
-mod state;
 mod token;
 
 pub use command::{Command, Commands};

@@ -2,27 +2,42 @@ ghost use Rattle.std.specs.Prelude.{◌≡◌, [], IfErr, IsOk, OnOk};
 ghost use Rattle.dimacs_text.specs.declared.refusal.Refusal.{Refusal};
 ghost use Rattle.dimacs_text.specs.declared.refusal.ReadError.{ReadError};
 ghost use Rattle.dimacs_text.specs.Grammar.{Ended, Refused};
-ghost use Rattle.dimacs_text.specs.Reads.{HasRead, Gives, Refuses, RunsOut, Ends, HasEnded, HasFailed};
+ghost use Rattle.dimacs_text.specs.Steps.{token_step, word_step, byte_step, end_step, Does};
+ghost use Rattle.dimacs_text.specs.Reads.{HasRead, Gives, Refuses, RunsOut, Concludes, HasEnded, HasFailed};
 
-use crate::command::Commands;
-use crate::refusal::ReadError;
-use crate::state::{Stage, State};
-use sat_lits::Limits;
+use crate::command::{Command, Commands};
+use crate::refusal::{ReadError, Refusal};
+use crate::token::{Token, Word, extended, is_blank, token_of};
+use sat_lits::{Limits, List, Lit};
 use std::alloc::Global;
-use std::marker::Model;
+use std::mem;
+
+/// Whether a reader goes on.
+#[derive(Clone, Copy)]
+enum Stage {
+    /// More of the text may come.
+    Open,
+    /// The text has ended.
+    Ended,
+    /// This is answered from now on.
+    Failed(ReadError),
+}
 
 /// Reads a text that comes in any pieces. It keeps the open clause alone, and no text.
 #[derive(Drop)]
 pub struct Reader {
-    state: State,
-}
-
-impl Model for Reader {
-    ghost use Rattle.dimacs_text.specs.declared.state.State.{State};
-
-    ghost Value = { State };
-
-    ghost view = { λ reader. reader.state };
+    alloc: Global,
+    limits: Limits,
+    stage: Stage,
+    /// The number of bytes so far.
+    place: u64,
+    /// The number of literals so far.
+    count: u64,
+    in_clause: bool,
+    /// The literals of the open clause.
+    lits: List<Lit>,
+    /// The token that has begun.
+    word: Word,
 }
 
 impl Reader {
@@ -31,7 +46,14 @@ impl Reader {
         ensures { HasRead limits [] [] result }
     {
         Reader {
-            state: State::new(alloc, limits),
+            alloc,
+            limits,
+            stage: Stage::Open,
+            place: 0,
+            count: 0,
+            in_clause: false,
+            lits: List::new(alloc),
+            word: Word::Empty,
         }
     }
 
@@ -54,8 +76,8 @@ impl Reader {
         ensures after_end { HasEnded self.old
             → IsOk result × (self.new ≡ self.old) × (to.new ≡ to.old) }
     {
-        match self.state.stage {
-            Stage::Open => self.state.feed(piece, to),
+        match self.stage {
+            Stage::Open => self.take_piece(piece, to),
             Stage::Ended => Ok(()),
             Stage::Failed(error) => Err(error),
         }
@@ -66,10 +88,10 @@ impl Reader {
     /// `Refused` comes where the whole text is refused. Later calls append nothing, and answer Ok
     /// after an Ok, and the error after an error.
     pub fn finish(&mut self, to: &mut Commands) -> Result<(), ReadError>
-        ensures ok { OnOk result (Ends self.old to.old to.new Ended) }
+        ensures ok { OnOk result (Concludes self.old to.old to.new Ended) }
         ensures refused { (why : Refusal)
             → result ≡ Err (ReadError.Refused why)
-            → Ends self.old to.old to.new (Refused why) }
+            → Concludes self.old to.old to.new (Refused why) }
         ensures memory { result ≡ Err ReadError.Memory → to.new ≡ to.old }
 
         // What comes after an error, and after the end of the text.
@@ -81,10 +103,125 @@ impl Reader {
         ensures after_end { HasEnded self.old
             → IsOk result × (self.new ≡ self.old) × (to.new ≡ to.old) }
     {
-        match self.state.stage {
-            Stage::Open => self.state.finish(to),
+        match self.stage {
+            Stage::Open => self.take_end(to),
             Stage::Ended => Ok(()),
             Stage::Failed(error) => Err(error),
+        }
+    }
+
+    /// A piece comes.
+    fn take_piece(&mut self, piece: &[u8], to: &mut Commands) -> Result<(), ReadError>
+        ensures ok { OnOk result (Gives self.old self.new piece.now to.old to.new) }
+        ensures refused { (why : Refusal)
+            → result ≡ Err (ReadError.Refused why)
+            → Refuses self.old piece.now to.old to.new why }
+        ensures memory { result ≡ Err ReadError.Memory → RunsOut self.old piece.now to.old to.new }
+        ensures latched { (error : ReadError) → result ≡ Err error → HasFailed self.new error }
+    {
+        for byte in piece {
+            if let Err(error) = self.byte_step(*byte, to) {
+                self.stage = Stage::Failed(error);
+                return Err(error);
+            }
+        }
+        Ok(())
+    }
+
+    /// The text ends, and the reading with it.
+    fn take_end(&mut self, to: &mut Commands) -> Result<(), ReadError>
+        ensures ok { OnOk result (Concludes self.old to.old to.new Ended) }
+        ensures refused { (why : Refusal)
+            → result ≡ Err (ReadError.Refused why)
+            → Concludes self.old to.old to.new (Refused why) }
+        ensures memory { result ≡ Err ReadError.Memory → to.new ≡ to.old }
+        ensures ended { OnOk result (HasEnded self.new) }
+        ensures latched { (error : ReadError) → result ≡ Err error → HasFailed self.new error }
+    {
+        match self.end_step(to) {
+            Ok(()) => {
+                self.stage = Stage::Ended;
+                Ok(())
+            }
+            Err(error) => {
+                self.stage = Stage::Failed(error);
+                Err(error)
+            }
+        }
+    }
+
+    /// A token ends.
+    #[tactic(auto, unfolding(crate::specs::Steps::token_step))]
+    fn token_step(&mut self, token: Token, to: &mut Commands) -> Result<(), ReadError>
+        ensures { Does result self.new to.old to.new (token_step self.old token) }
+    {
+        match token {
+            Token::Ending => {
+                let empty = List::new(self.alloc);
+                let lits = mem::replace(&mut self.lits, empty);
+                self.in_clause = false;
+                self.word = Word::Empty;
+                to.push(Command::Clause(lits))?;
+                Ok(())
+            }
+            Token::Literal(lit) => {
+                let limits = self.limits;
+                if self.count < limits.lits() {
+                    self.in_clause = true;
+                    self.word = Word::Empty;
+                    self.count += 1;
+                    self.lits.push(lit)?;
+                    Ok(())
+                } else {
+                    Err(ReadError::Refused(Refusal::NotPlain))
+                }
+            }
+            Token::TooLarge => Err(ReadError::Refused(Refusal::NotPlain)),
+            Token::NoLiteral => Err(ReadError::Refused(Refusal::NotPlain)),
+        }
+    }
+
+    /// The token that has begun ends, if there is one.
+    #[tactic(auto, unfolding(crate::specs::Steps::word_step))]
+    fn word_step(&mut self, to: &mut Commands) -> Result<(), ReadError>
+        ensures { Does result self.new to.old to.new (word_step self.old self.old.word) }
+    {
+        let limits = self.limits;
+        match self.word {
+            Word::Empty => Ok(()),
+            word => self.token_step(token_of(word, limits.vars()), to),
+        }
+    }
+
+    /// A byte comes.
+    #[tactic(auto, unfolding(crate::specs::Steps::byte_step))]
+    fn byte_step(&mut self, byte: u8, to: &mut Commands) -> Result<(), ReadError>
+        ensures { Does result self.new to.old to.new (byte_step self.old byte) }
+    {
+        let limits = self.limits;
+        if limits.input() <= self.place {
+            return Err(ReadError::Refused(Refusal::NotPlain));
+        }
+        let next = self.place + 1;
+        if is_blank(byte) {
+            self.word_step(to)?;
+        } else {
+            self.word = extended(self.word, byte, limits.vars());
+        }
+        self.place = next;
+        Ok(())
+    }
+
+    /// The text ends.
+    #[tactic(auto, unfolding(crate::specs::Steps::end_step))]
+    fn end_step(&mut self, to: &mut Commands) -> Result<(), ReadError>
+        ensures { Does result self.new to.old to.new (end_step self.old) }
+    {
+        self.word_step(to)?;
+        if self.in_clause {
+            Err(ReadError::Refused(Refusal::NotPlain))
+        } else {
+            Ok(())
         }
     }
 }

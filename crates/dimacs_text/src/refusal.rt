@@ -1,3 +1,5 @@
+use sat_lits::NoMemory;
+
 /// Why a text is refused.
 #[derive(Clone, Copy, Debug, PartialEq, Eq)]
 pub enum Refusal {
@@ -13,4 +15,15 @@ pub enum ReadError {
     Refused(Refusal),
     /// Memory ran out.
     Memory,
+}
+
+impl From<NoMemory> for ReadError {
+    ghost use Rattle.std.specs.Prelude.{◌≡◌};
+    ghost use Rattle.dimacs_text.specs.declared.refusal.ReadError.TheVariants.{Memory};
+
+    ghost from_gives = { λ _ error. error ≡ Memory };
+
+    fn from(_error: NoMemory) -> ReadError {
+        ReadError::Memory
+    }
 }

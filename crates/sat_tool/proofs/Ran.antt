@@ -16,18 +16,18 @@ use Rattle.dimacs_text.specs.Texts.{text_of_refusal}
 use Rattle.dimacs_text.specs.declared.command.Command.{Command}
 use Rattle.dimacs_text.specs.declared.refusal.Refusal.{Refusal}
 use Rattle.sat_tool.specs.Questions.{problem_of}
-use Rattle.sat_tool.specs.Progress.{HasCarriedAll, ReadsAll, ReadsRefusal, settings_of}
+use Rattle.sat_tool.specs.Progress.{HasCarriedAll, ReadsAll, ReadsRefusal, ReadsNoMore, settings_of}
 use Rattle.sat_tool.specs.Reports.{SpendsLimit, IsReportOn, text_of_report, status_of, WritesReport, StopsReport, StopsRefusal}
 use Rattle.sat_tool.specs.Words.{options_of, with_options}
-use Rattle.sat_tool.specs.Errors.{stop_for}
+use Rattle.sat_tool.specs.Errors.{halted}
 use Rattle.sat_tool.specs.Writing.{Port, WritesText}
-use Rattle.sat_tool.specs.Runs.{IsOutputAt, IsOutputFor, AnswersText, CutsOutput, StopsRight, RunsRight, IsAmong, LeavesEnough, formula_of, status_of_stop}
+use Rattle.sat_tool.specs.Runs.{IsOutputAt, IsOutputFor, AnswersText, CutsOutput, StopsRight, RunsRight, IsAmong, LeavesEnough, formula_of, status_without, most_read}
 use Rattle.sat_tool.specs.declared.report.Report.{Report}
 use Rattle.sat_tool.specs.declared.report.Report.TheVariants as report
-use Rattle.sat_tool.specs.declared.stop.Halt.{Halt}
-use Rattle.sat_tool.specs.declared.stop.Halt.TheVariants as halt
-use Rattle.sat_tool.specs.declared.stop.Stop.{Stop}
-use Rattle.sat_tool.specs.declared.stop.Stop.TheVariants as stop
+use Rattle.sat_tool.specs.declared.failures.Halt.{Halt}
+use Rattle.sat_tool.specs.declared.failures.Halt.TheVariants as halt
+use Rattle.sat_tool.specs.declared.failures.NoReport.{NoReport}
+use Rattle.sat_tool.specs.declared.failures.NoReport.TheVariants as without
 use Rattle.sat_tool.specs.declared.words.Options.{Options}
 
 -- what was read to the end is the whole text
@@ -70,27 +70,29 @@ report_since (report.Limit counts) f g before asked now e kept h =
 
 -- the text was read, and a report was written
 pub answers_text : (status : ℕ) (source_before source_now sink_before sink_now : Port) (before asked now : SolverState) → ReadsAll source_before.bytes source_now.bytes asked → settings_of asked ≡ settings_of before
-    → now.problem ≡ asked.problem → WritesReport status asked.problem asked now sink_before sink_now → AnswersText status source_before source_now sink_before sink_now before now
-answers_text status source_before source_now sink_before sink_now before asked now r kept same w =
+    → source_now.faults ≡ source_before.faults → now.problem ≡ asked.problem → WritesReport status asked.problem asked now sink_before sink_now → AnswersText status source_before source_now sink_before sink_now before now
+answers_text status source_before source_now sink_before sink_now before asked now r kept still same w =
     record {
       text = r.text;
       consumed = r.consumed;
       ended = r.ended;
+      kept = still;
       carried = record { commands = r.carried.commands; reading = r.carried.reading; problem = same ∙ r.carried.problem };
       answered = record {
         report = w.report;
         is_status = w.is_status;
         right = report_since w.report asked.problem (problem_of r.carried.commands) before asked now r.carried.problem kept w.right;
         written = w.written;
+        kept = w.kept;
       };
     }
 
 -- a report was not written whole
-pub stops_report : {X : Type 0} (halt : Halt) (s : Stop) (r : Report) (f : Problem) (before now : SolverState) (result : Result X Halt) (sink_before sink_now : Port) → result ≡ Err halt → s ≡ stop_for halt
+pub stops_report : {X : Type 0} (halt : Halt) (s : NoReport) (r : Report) (f : Problem) (before now : SolverState) (result : Result X Halt) (sink_before sink_now : Port) → result ≡ Err halt → s ≡ halted halt
     → IsReportOn f before now r → WritesText (text_of_report r) result sink_before sink_now → StopsReport s f before now sink_before sink_now
 stops_report halt.Write s r f before now result sink_before sink_now e is h w =
-    subst (λ (x : Stop). StopsReport x f before now sink_before sink_now) (sym is) (record { report = r; right = h; written = w.front e; fault = w.fault e })
-stops_report halt.Memory s r f before now result sink_before sink_now e is h w = subst (λ (x : Stop). StopsReport x f before now sink_before sink_now) (sym is) (w.none e)
+    subst (λ (x : NoReport). StopsReport x f before now sink_before sink_now) (sym is) (record { report = r; right = h; written = w.front e; fault = w.fault e })
+stops_report halt.Memory s r f before now result sink_before sink_now e is h w = subst (λ (x : NoReport). StopsReport x f before now sink_before sink_now) (sym is) (w.none e)
 
 report_output : (text : List ℕ) (commands : List Command) (before now : SolverState) (r : Report) → reading_of standard_limits text ≡ record { commands = commands; end = Ended } → IsReportOn (problem_of commands) before now r
     → IsOutputFor before now text (text_of_report r)
@@ -104,9 +106,10 @@ refusal_output text before now why e =
     subst P (sym e) refl
 
 -- the text was read, and no whole report was written
-pub stops_text : (s : Stop) (source_before source_now sink_before sink_now : Port) (before asked now : SolverState) → ReadsAll source_before.bytes source_now.bytes asked → settings_of asked ≡ settings_of before
+pub stops_text : (s : NoReport) (source_before source_now sink_before sink_now : Port) (before asked now : SolverState) → ReadsAll source_before.bytes source_now.bytes asked → settings_of asked ≡ settings_of before
     → source_now.faults ≡ source_before.faults → StopsReport s asked.problem asked now sink_before sink_now → StopsRight s source_before source_now sink_before sink_now before now
-stops_text stop.Write source_before source_now sink_before sink_now before asked now r kept still h = (
+stops_text without.Write source_before source_now sink_before sink_now before asked now r kept still h = (
+  still,
   h.fault,
   λ text e. record {
     out = text_of_report h.report;
@@ -116,16 +119,17 @@ stops_text stop.Write source_before source_now sink_before sink_now before asked
     written = h.written;
   },
 )
-stops_text stop.Memory source_before source_now sink_before sink_now before asked now r kept still h = (still, h)
-stops_text stop.Refused source_before source_now sink_before sink_now before asked now r kept still h = absurd h
-stops_text stop.Read source_before source_now sink_before sink_now before asked now r kept still h = absurd h
+stops_text without.Memory source_before source_now sink_before sink_now before asked now r kept still h = (still, h)
+stops_text without.Refused source_before source_now sink_before sink_now before asked now r kept still h = absurd h
+stops_text without.Read source_before source_now sink_before sink_now before asked now r kept still h = absurd h
 
 -- the text is refused
-pub stops_refusal : (s : Stop) (source_before source_now sink_before sink_now : Port) (before now : SolverState) (why : Refusal) → ReadsRefusal source_before.bytes source_now.bytes why
+pub stops_refusal : (s : NoReport) (source_before source_now sink_before sink_now : Port) (before now : SolverState) (why : Refusal) → ReadsRefusal source_before.bytes source_now.bytes why
     → source_now.faults ≡ source_before.faults → StopsRefusal s why sink_before sink_now → StopsRight s source_before source_now sink_before sink_now before now
-stops_refusal stop.Refused source_before source_now sink_before sink_now before now why r kept h =
-    λ text e. record { why = why; refused = refused_reading source_before.bytes source_now.bytes text why e r; written = h }
-stops_refusal stop.Write source_before source_now sink_before sink_now before now why r kept h = (
+stops_refusal without.Refused source_before source_now sink_before sink_now before now why r kept h =
+    (kept, h.1, λ text e. record { why = why; refused = refused_reading source_before.bytes source_now.bytes text why e r; written = h.0 })
+stops_refusal without.Write source_before source_now sink_before sink_now before now why r kept h = (
+  kept,
   h.1,
   λ text e. record {
     out = text_of_refusal why;
@@ -133,8 +137,8 @@ stops_refusal stop.Write source_before source_now sink_before sink_now before no
     written = h.0;
   },
 )
-stops_refusal stop.Memory source_before source_now sink_before sink_now before now why r kept h = (kept, h)
-stops_refusal stop.Read source_before source_now sink_before sink_now before now why r kept h = absurd h
+stops_refusal without.Memory source_before source_now sink_before sink_now before now why r kept h = (kept, h)
+stops_refusal without.Read source_before source_now sink_before sink_now before now why r kept h = absurd h
 
 failed_none : (positions : List ℕ) (failed : List Lit) → StandAt [] positions failed → failed ≡ []
 failed_none [] [] h = refl
@@ -185,9 +189,10 @@ not_refused : (words : List (List ℕ)) (options : Options) → options_of words
 not_refused words options e f = let g : Some options ≡ None = sym e ∙ f in cc
 
 -- a run that answered
-answered_run : (words : List (List ℕ)) (options : Options) (status : ℕ) (source_before source_now sink_before sink_now : Port) (s t : SolverState) → options_of words ≡ Some options
-    → t.max_conflicts ≡ options.max_conflicts → AnswersText status source_before source_now sink_before sink_now (with_options options s) t → RunsRight words status source_before source_now sink_before sink_now s t
-answered_run words options status source_before source_now sink_before sink_now s t taken limit h =
+answered_run : (words : List (List ℕ)) (options : Options) (status : ℕ) (source_before source_now sink_before sink_now : Port) (raised_before raised_now : ℕ) (s t : SolverState) → options_of words ≡ Some options
+    → t.max_conflicts ≡ options.max_conflicts → AnswersText status source_before source_now sink_before sink_now (with_options options s) t → ReadsNoMore most_read source_before.bytes source_now.bytes → raised_now ≡ raised_before
+    → RunsRight words status source_before source_now sink_before sink_now raised_before raised_now s t
+answered_run words options status source_before source_now sink_before sink_now raised_before raised_now s t taken limit h little quiet =
     let high = report_status h.answered.report status h.answered.is_status in
     let reads = λ (text : List ℕ) (told : source_before.bytes ≡ Some text). whole_reading source_before.bytes source_now.bytes h.text text t told h.consumed h.ended h.carried in
     record {
@@ -205,6 +210,10 @@ answered_run words options status source_before source_now sink_before sink_now 
       read_failed = λ three. absurd (not_low status 3 high (omega arith) three);
       write_fault = λ four. absurd (not_low status 4 high (omega arith) four);
       write_failed = λ other f text told four. absurd (not_low status 4 high (omega arith) four);
+      reads_kept = λ _. h.kept;
+      writes_kept = λ _. h.answered.kept;
+      reads_little = little;
+      not_asked = quiet;
       out_of_memory = λ five. absurd (not_low status 5 high (omega arith) five);
       complete = λ other f text told ends no_read no_write leaves. inr (
           let same : formula_of text ≡ problem_of h.carried.commands = ap (λ (r : Reading). problem_of r.commands) (reads text told) in
@@ -218,32 +227,38 @@ answered_run words options status source_before source_now sink_before sink_now 
     statuses_high : (status : ℕ) → IsAmong (10 ∷ 15 ∷ 20 ∷ []) status → IsAmong (1 ∷ 2 ∷ 3 ∷ 4 ∷ 5 ∷ 10 ∷ 15 ∷ 20 ∷ []) status
     statuses_high status h = inr (inr (inr (inr (inr h))))
 
-pub ran_answer : (words : List (List ℕ)) (options : Options) (status told : ℕ) (source_before source_now sink_before sink_now : Port) (s asked t : SolverState) → options_of words ≡ Some options
-    → asked ≡ with_options options s → t.max_conflicts ≡ asked.max_conflicts → status ≡ told → AnswersText told source_before source_now sink_before sink_now asked t → RunsRight words status source_before source_now sink_before sink_now s t
-ran_answer words options status told source_before source_now sink_before sink_now s asked t taken set kept e h =
-    answered_run words options status source_before source_now sink_before sink_now s t taken (kept ∙ ap (λ (b : SolverState). b.max_conflicts) set)
-    (subst (λ (n : ℕ). AnswersText n source_before source_now sink_before sink_now (with_options options s) t) (sym e) (subst (λ (b : SolverState). AnswersText told source_before source_now sink_before sink_now b t) set h))
+pub ran_answer : (words : List (List ℕ)) (options : Options) (status told : ℕ) (source_before source_now sink_before sink_now : Port) (raised_before raised_now : ℕ) (s asked t : SolverState) → options_of words ≡ Some options
+    → asked ≡ with_options options s → t.max_conflicts ≡ asked.max_conflicts → status ≡ told → AnswersText told source_before source_now sink_before sink_now asked t → ReadsNoMore most_read source_before.bytes source_now.bytes → raised_now ≡ raised_before
+    → RunsRight words status source_before source_now sink_before sink_now raised_before raised_now s t
+ran_answer words options status told source_before source_now sink_before sink_now raised_before raised_now s asked t taken set kept e h little quiet =
+    answered_run words options status source_before source_now sink_before sink_now raised_before raised_now s t taken (kept ∙ ap (λ (b : SolverState). b.max_conflicts) set)
+    (subst (λ (n : ℕ). AnswersText n source_before source_now sink_before sink_now (with_options options s) t) (sym e) (subst (λ (b : SolverState). AnswersText told source_before source_now sink_before sink_now b t) set h)) little quiet
 
 -- a run that stopped
-stopped_run : (words : List (List ℕ)) (options : Options) (status : ℕ) (why : Stop) (source_before source_now sink_before sink_now : Port) (s t : SolverState) → options_of words ≡ Some options
-    → t.max_conflicts ≡ options.max_conflicts → status ≡ status_of_stop why → StopsRight why source_before source_now sink_before sink_now (with_options options s) t → RunsRight words status source_before source_now sink_before sink_now s t
-stopped_run words options status stop.Refused source_before source_now sink_before sink_now s t taken limit e h =
+stopped_run : (words : List (List ℕ)) (options : Options) (status : ℕ) (why : NoReport) (source_before source_now sink_before sink_now : Port) (raised_before raised_now : ℕ) (s t : SolverState) → options_of words ≡ Some options
+    → t.max_conflicts ≡ options.max_conflicts → status ≡ status_without why → StopsRight why source_before source_now sink_before sink_now (with_options options s) t → ReadsNoMore most_read source_before.bytes source_now.bytes → raised_now ≡ raised_before
+    → RunsRight words status source_before source_now sink_before sink_now raised_before raised_now s t
+stopped_run words options status without.Refused source_before source_now sink_before sink_now raised_before raised_now s t taken limit e h little quiet =
     record {
       statuses = inr (inl e);
       words_refused = (λ one. absurd (omega arith), λ none. absurd (not_refused words options taken none));
       untouched = λ one. absurd (omega arith);
       limited = λ other f. limit ∙ ap (λ (o : Options). o.max_conflicts) (same_options words options other taken f);
       answered = λ other f among. absurd (not_low status 2 among (omega arith) e);
-      refused = λ text told two. h text told;
-      refused_exactly = λ text told are_taken three four five. (λ two ends. let r = (h text told).refused in absurd cc, λ ends. e);
+      refused = λ text told two. h.2 text told;
+      refused_exactly = λ text told are_taken three four five. (λ two ends. let r = (h.2 text told).refused in absurd cc, λ ends. e);
       read_fault = λ three. absurd (omega arith);
       read_failed = λ three. absurd (omega arith);
       write_fault = λ four. absurd (omega arith);
       write_failed = λ other f text told four. absurd (omega arith);
+      reads_kept = λ _. h.0;
+      writes_kept = λ _. h.1;
+      reads_little = little;
+      not_asked = quiet;
       out_of_memory = λ five. absurd (omega arith);
-      complete = λ other f text told ends no_read no_write leaves. let r = (h text told).refused in absurd cc;
+      complete = λ other f text told ends no_read no_write leaves. let r = (h.2 text told).refused in absurd cc;
     }
-stopped_run words options status stop.Read source_before source_now sink_before sink_now s t taken limit e h =
+stopped_run words options status without.Read source_before source_now sink_before sink_now raised_before raised_now s t taken limit e h little quiet =
     record {
       statuses = inr (inr (inl e));
       words_refused = (λ one. absurd (omega arith), λ none. absurd (not_refused words options taken none));
@@ -256,10 +271,14 @@ stopped_run words options status stop.Read source_before source_now sink_before 
       read_failed = λ three. h.1;
       write_fault = λ four. absurd (omega arith);
       write_failed = λ other f text told four. absurd (omega arith);
+      reads_kept = λ other_than. absurd (other_than e);
+      writes_kept = λ _. ap (λ (p : Port). p.faults) h.1;
+      reads_little = little;
+      not_asked = quiet;
       out_of_memory = λ five. absurd (omega arith);
       complete = λ other f text told ends no_read no_write leaves. absurd (no_read h.0);
     }
-stopped_run words options status stop.Write source_before source_now sink_before sink_now s t taken limit e h =
+stopped_run words options status without.Write source_before source_now sink_before sink_now raised_before raised_now s t taken limit e h little quiet =
     record {
       statuses = inr (inr (inr (inl e)));
       words_refused = (λ one. absurd (omega arith), λ none. absurd (not_refused words options taken none));
@@ -270,13 +289,17 @@ stopped_run words options status stop.Write source_before source_now sink_before
       refused_exactly = λ text told are_taken three four five. absurd (four e);
       read_fault = λ three. absurd (omega arith);
       read_failed = λ three. absurd (omega arith);
-      write_fault = λ four. h.0;
+      write_fault = λ four. h.1;
       write_failed = λ other f text told four.
-          subst (λ (o : Options). CutsOutput text sink_before sink_now (with_options o s) t) (same_options words options other taken f) (h.1 text told);
+          subst (λ (o : Options). CutsOutput text sink_before sink_now (with_options o s) t) (same_options words options other taken f) (h.2 text told);
+      reads_kept = λ _. h.0;
+      writes_kept = λ other_than. absurd (other_than e);
+      reads_little = little;
+      not_asked = quiet;
       out_of_memory = λ five. absurd (omega arith);
-      complete = λ other f text told ends no_read no_write leaves. absurd (no_write h.0);
+      complete = λ other f text told ends no_read no_write leaves. absurd (no_write h.1);
     }
-stopped_run words options status stop.Memory source_before source_now sink_before sink_now s t taken limit e h =
+stopped_run words options status without.Memory source_before source_now sink_before sink_now raised_before raised_now s t taken limit e h little quiet =
     record {
       statuses = inr (inr (inr (inr (inl e))));
       words_refused = (λ one. absurd (omega arith), λ none. absurd (not_refused words options taken none));
@@ -289,12 +312,17 @@ stopped_run words options status stop.Memory source_before source_now sink_befor
       read_failed = λ three. absurd (omega arith);
       write_fault = λ four. absurd (omega arith);
       write_failed = λ other f text told four. absurd (omega arith);
-      out_of_memory = λ five. h;
+      reads_kept = λ _. h.0;
+      writes_kept = λ _. ap (λ (p : Port). p.faults) h.1;
+      reads_little = little;
+      not_asked = quiet;
+      out_of_memory = λ five. h.1;
       complete = λ other f text told ends no_read no_write leaves. inl e;
     }
 
-pub ran_stop : (words : List (List ℕ)) (options : Options) (status : ℕ) (why : Stop) (source_before source_now sink_before sink_now : Port) (s asked t : SolverState) → options_of words ≡ Some options
-    → asked ≡ with_options options s → t.max_conflicts ≡ asked.max_conflicts → status ≡ status_of_stop why → StopsRight why source_before source_now sink_before sink_now asked t → RunsRight words status source_before source_now sink_before sink_now s t
-ran_stop words options status why source_before source_now sink_before sink_now s asked t taken set kept e h =
-    stopped_run words options status why source_before source_now sink_before sink_now s t taken (kept ∙ ap (λ (b : SolverState). b.max_conflicts) set) e
-    (subst (λ (b : SolverState). StopsRight why source_before source_now sink_before sink_now b t) set h)
+pub ran_stop : (words : List (List ℕ)) (options : Options) (status : ℕ) (why : NoReport) (source_before source_now sink_before sink_now : Port) (raised_before raised_now : ℕ) (s asked t : SolverState) → options_of words ≡ Some options
+    → asked ≡ with_options options s → t.max_conflicts ≡ asked.max_conflicts → status ≡ status_without why → StopsRight why source_before source_now sink_before sink_now asked t → ReadsNoMore most_read source_before.bytes source_now.bytes → raised_now ≡ raised_before
+    → RunsRight words status source_before source_now sink_before sink_now raised_before raised_now s t
+ran_stop words options status why source_before source_now sink_before sink_now raised_before raised_now s asked t taken set kept e h little quiet =
+    stopped_run words options status why source_before source_now sink_before sink_now raised_before raised_now s t taken (kept ∙ ap (λ (b : SolverState). b.max_conflicts) set) e
+    (subst (λ (b : SolverState). StopsRight why source_before source_now sink_before sink_now b t) set h) little quiet

@@ -11,7 +11,7 @@ use Rattle.dimacs_text.specs.Reads.{HasRead}
 use Rattle.dimacs_text.specs.Commands.{item_of}
 use Rattle.dimacs_text.specs.declared.command.Command.{Command}
 use Rattle.dimacs_text.specs.declared.refusal.Refusal.{Refusal}
-use Rattle.dimacs_text.specs.declared.state.State.{State}
+use Rattle.dimacs_text.specs.declared.reader.Reader.{Reader}
 use Rattle.sat_tool.specs.Questions.{nothing_yet, problem_of}
 
 -- a solver without its formula and its answer: its limits, and the conflicts that it counted
@@ -26,19 +26,25 @@ pub record HasRoomFor (commands : List Command) (solver : SolverState) : Type 0 
   pub few : lit_count solver.problem.items + lit_count (map item_of commands) ≤ 33554432
 
 -- the text so far was read, and its commands were carried out
-pub record HasCarried (text : List ℕ) (reader : State) (solver : SolverState) : Type 0 where
+pub record HasCarried (text : List ℕ) (reader : Reader) (solver : SolverState) : Type 0 where
   pub given : List Command
   pub read : HasRead standard_limits text given reader
   pub problem : solver.problem ≡ problem_of given
   pub limits : solver.limits ≡ standard_limits
 
 -- so many bytes were read of the source, which did not fail, and their commands were carried out
-pub record Reads (taken : ℕ) (reader : State) (left_before left_now : Option (List ℕ)) (faults_before faults_now : ℕ) (solver : SolverState) : Type 0 where
+pub record Reads (taken : ℕ) (reader : Reader) (left_before left_now : Option (List ℕ)) (faults_before faults_now : ℕ) (solver : SolverState) : Type 0 where
   pub text : List ℕ
   pub consumed : Consumes left_before left_now text
   pub carried : HasCarried text reader solver
   pub counted : taken ≡ length text
   pub kept : faults_now ≡ faults_before
+
+-- at most so many bytes were read of the source
+pub record ReadsNoMore (most : ℕ) (left_before left_now : Option (List ℕ)) : Type 0 where
+  pub text : List ℕ
+  pub consumed : Consumes left_before left_now text
+  pub few : length text ≤ most
 
 -- the whole text was read, and its commands were carried out
 pub record HasCarriedAll (text : List ℕ) (solver : SolverState) : Type 0 where

@@ -15,8 +15,8 @@ use Rattle.dimacs_text.specs.declared.refusal.Refusal.{Refusal}
 use Rattle.sat_tool.specs.Writing.{Port}
 use Rattle.sat_tool.specs.declared.report.Report.{Report}
 use Rattle.sat_tool.specs.declared.report.Report.TheVariants as report
-use Rattle.sat_tool.specs.declared.stop.Stop.{Stop}
-use Rattle.sat_tool.specs.declared.stop.Stop.TheVariants as stop
+use Rattle.sat_tool.specs.declared.failures.NoReport.{NoReport}
+use Rattle.sat_tool.specs.declared.failures.NoReport.TheVariants as without
 
 -- the solver left the verdict to be read
 abbrev pub IsTold : Verdict → SolverState → Type 0
@@ -50,12 +50,13 @@ status_of (report.Verdict (Sat values)) = 10
 status_of (report.Verdict (Unsat failed)) = 20
 status_of (report.Limit counts) = 15
 
--- a right report on the formula, with this status, was written
+-- a right report on the formula, with this status, was written, and no write failed
 pub record WritesReport (status : ℕ) (f : Problem) (before now : SolverState) (sink_before sink_now : Port) : Type 0 where
   pub report : Report
   pub is_status : status ≡ status_of report
   pub right : IsReportOn f before now report
   pub written : Appends sink_before.bytes sink_now.bytes (text_of_report report)
+  pub kept : sink_now.faults ≡ sink_before.faults
 
 -- a front of a right report on the formula was written, and the sink failed
 pub record CutsReport (f : Problem) (before now : SolverState) (sink_before sink_now : Port) : Type 0 where
@@ -65,15 +66,15 @@ pub record CutsReport (f : Problem) (before now : SolverState) (sink_before sink
   pub fault : Rose sink_before.faults sink_now.faults
 
 -- why a formula got no whole report
-abbrev pub StopsReport : Stop → Problem → SolverState → SolverState → Port → Port → Type 0
-StopsReport stop.Write f before now sink_before sink_now = CutsReport f before now sink_before sink_now
-StopsReport stop.Memory f before now sink_before sink_now = sink_now ≡ sink_before
-StopsReport stop.Refused f before now sink_before sink_now = ⊥
-StopsReport stop.Read f before now sink_before sink_now = ⊥
+abbrev pub StopsReport : NoReport → Problem → SolverState → SolverState → Port → Port → Type 0
+StopsReport without.Write f before now sink_before sink_now = CutsReport f before now sink_before sink_now
+StopsReport without.Memory f before now sink_before sink_now = sink_now ≡ sink_before
+StopsReport without.Refused f before now sink_before sink_now = ⊥
+StopsReport without.Read f before now sink_before sink_now = ⊥
 
 -- how a refusal was written
-abbrev pub StopsRefusal : Stop → Refusal → Port → Port → Type 0
-StopsRefusal stop.Refused why before now = Appends before.bytes now.bytes (text_of_refusal why)
-StopsRefusal stop.Write why before now = AppendsFront before.bytes now.bytes (text_of_refusal why) × Rose before.faults now.faults
-StopsRefusal stop.Memory why before now = now ≡ before
-StopsRefusal stop.Read why before now = ⊥
+abbrev pub StopsRefusal : NoReport → Refusal → Port → Port → Type 0
+StopsRefusal without.Refused why before now = Appends before.bytes now.bytes (text_of_refusal why) × (now.faults ≡ before.faults)
+StopsRefusal without.Write why before now = AppendsFront before.bytes now.bytes (text_of_refusal why) × Rose before.faults now.faults
+StopsRefusal without.Memory why before now = now ≡ before
+StopsRefusal without.Read why before now = ⊥

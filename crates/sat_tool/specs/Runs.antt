@@ -1,5 +1,5 @@
 -- When a run is right.
-use Rattle.std.specs.Prelude.{◌≡◌, ◌≢◌, ◌↔◌, ◌⊎◌, ℕ, ◌≤◌, List, [], ◌∷◌, Some, None}
+use Rattle.std.specs.Prelude.{◌≡◌, ◌≢◌, ◌↔◌, ◌⊎◌, ℕ, ◌+◌, ◌≤◌, List, [], ◌∷◌, Some, None}
 use Rattle.std.specs.Io.KnownBytes.{Appends, Consumes, IsAtEnd}
 use Rattle.std.specs.Option.{ForSome}
 use Rattle.std.specs.declared.option.Option.{Option}
@@ -14,13 +14,13 @@ use Rattle.dimacs_text.specs.Texts.{text_of_refusal}
 use Rattle.dimacs_text.specs.declared.command.Command.{Command}
 use Rattle.dimacs_text.specs.declared.refusal.Refusal.{Refusal}
 use Rattle.sat_tool.specs.Questions.{problem_of}
-use Rattle.sat_tool.specs.Progress.{HasCarriedAll}
+use Rattle.sat_tool.specs.Progress.{HasCarriedAll, ReadsNoMore}
 use Rattle.sat_tool.specs.Reports.{IsReportOn, WritesReport, text_of_report}
 use Rattle.sat_tool.specs.Words.{options_of, with_options}
 use Rattle.sat_tool.specs.Writing.{Port}
 use Rattle.sat_tool.specs.declared.report.Report.{Report}
-use Rattle.sat_tool.specs.declared.stop.Stop.{Stop}
-use Rattle.sat_tool.specs.declared.stop.Stop.TheVariants as stop
+use Rattle.sat_tool.specs.declared.failures.NoReport.{NoReport}
+use Rattle.sat_tool.specs.declared.failures.NoReport.TheVariants as without
 use Rattle.sat_tool.specs.declared.words.Options.{Options}
 
 -- what is to be written for a text of these commands and this end: a right report, or the refusal
@@ -32,11 +32,13 @@ IsOutputAt before solver commands Open out = ⊥
 abbrev pub IsOutputFor : SolverState → SolverState → List ℕ → List ℕ → Type 0
 IsOutputFor before solver text out = IsOutputAt before solver (reading_of standard_limits text).commands (reading_of standard_limits text).end out
 
--- The text was read to the end of the source. It is plain, and a right report on its formula was written.
+-- The text was read to the end of the source, which did not fail. It is plain, and a right report on its formula was
+-- written.
 pub record AnswersText (status : ℕ) (source_before source_now sink_before sink_now : Port) (before solver : SolverState) : Type 0 where
   pub text : List ℕ
   pub consumed : Consumes source_before.bytes source_now.bytes text
   pub ended : IsAtEnd source_now.bytes
+  pub kept : source_now.faults ≡ source_before.faults
   pub carried : HasCarriedAll text solver
   pub answered : WritesReport status (problem_of carried.commands) before solver sink_before sink_now
 
@@ -53,18 +55,19 @@ pub record CutsOutput (text : List ℕ) (sink_before sink_now : Port) (before so
   pub written : AppendsFront sink_before.bytes sink_now.bytes out
 
 -- what a run left where it ended without a report
-abbrev pub StopsRight : Stop → Port → Port → Port → Port → SolverState → SolverState → Type 0
-StopsRight stop.Refused source_before source_now sink_before sink_now before solver = (text : List ℕ) → source_before.bytes ≡ Some text → RefusesText text sink_before sink_now
-StopsRight stop.Read source_before source_now sink_before sink_now before solver = Rose source_before.faults source_now.faults × (sink_now ≡ sink_before)
-StopsRight stop.Write source_before source_now sink_before sink_now before solver =
-    Rose sink_before.faults sink_now.faults × ((text : List ℕ) → source_before.bytes ≡ Some text → CutsOutput text sink_before sink_now before solver)
-StopsRight stop.Memory source_before source_now sink_before sink_now before solver = (source_now.faults ≡ source_before.faults) × (sink_now ≡ sink_before)
+abbrev pub StopsRight : NoReport → Port → Port → Port → Port → SolverState → SolverState → Type 0
+StopsRight without.Refused source_before source_now sink_before sink_now before solver =
+    (source_now.faults ≡ source_before.faults) × (sink_now.faults ≡ sink_before.faults) × ((text : List ℕ) → source_before.bytes ≡ Some text → RefusesText text sink_before sink_now)
+StopsRight without.Read source_before source_now sink_before sink_now before solver = Rose source_before.faults source_now.faults × (sink_now ≡ sink_before)
+StopsRight without.Write source_before source_now sink_before sink_now before solver =
+    (source_now.faults ≡ source_before.faults) × Rose sink_before.faults sink_now.faults × ((text : List ℕ) → source_before.bytes ≡ Some text → CutsOutput text sink_before sink_now before solver)
+StopsRight without.Memory source_before source_now sink_before sink_now before solver = (source_now.faults ≡ source_before.faults) × (sink_now ≡ sink_before)
 
-abbrev pub status_of_stop : Stop → ℕ
-status_of_stop stop.Refused = 2
-status_of_stop stop.Read = 3
-status_of_stop stop.Write = 4
-status_of_stop stop.Memory = 5
+abbrev pub status_without : NoReport → ℕ
+status_without without.Refused = 2
+status_without without.Read = 3
+status_without without.Write = 4
+status_without without.Memory = 5
 
 abbrev pub IsAmong : List ℕ → ℕ → Type 0
 IsAmong [] n = ⊥
@@ -80,16 +83,20 @@ DecidesText text status =
     ((status ≡ 10) × ((values : List _) × IsModel (formula_of text) values))
     ⊎ ((status ≡ 20) × ((values : List _) → IsModel (formula_of text) values → ⊥))
 
+-- the most bytes that are read: as many as a text may have, and one piece of 65536
+abbrev pub most_read : ℕ
+most_read = standard_limits.input + 65536
+
 -- no conflict limit, or one that is enough to decide the formula
 abbrev pub LeavesEnough : Option ℕ → Problem → Type 0
 LeavesEnough limit f = ForSome limit (λ m. enough (own_count f) ≤ m)
 
--- a whole run of the program with these words, on a solver that was so before
-pub record RunsRight (words : List (List ℕ)) (status : ℕ) (source_before source_now sink_before sink_now : Port) (solver_before solver : SolverState) : Type 0 where
+-- a whole run of the program with these words, with an alarm that was raised so often and a solver that was so before
+pub record RunsRight (words : List (List ℕ)) (status : ℕ) (source_before source_now sink_before sink_now : Port) (raised_before raised_now : ℕ) (solver_before solver : SolverState) : Type 0 where
   pub statuses : IsAmong (1 ∷ 2 ∷ 3 ∷ 4 ∷ 5 ∷ 10 ∷ 15 ∷ 20 ∷ []) status
-  -- the words are not taken, and then nothing is read or written
+  -- the words are not taken, and then nothing is read or written, and the solver is as it was
   pub words_refused : (status ≡ 1) ↔ (options_of words ≡ None)
-  pub untouched : status ≡ 1 → (source_now ≡ source_before) × (sink_now ≡ sink_before)
+  pub untouched : status ≡ 1 → (source_now ≡ source_before) × (sink_now ≡ sink_before) × (solver ≡ solver_before)
   -- the solver has the conflict limit that the words set
   pub limited : (options : Options) → options_of words ≡ Some options → solver.max_conflicts ≡ options.max_conflicts
   -- the text was read to its end, and a right report was written: a verdict, or that the limit which the words set was spent
@@ -106,8 +113,14 @@ pub record RunsRight (words : List (List ℕ)) (status : ℕ) (source_before sou
   pub write_fault : status ≡ 4 → Rose sink_before.faults sink_now.faults
   pub write_failed : (options : Options) → options_of words ≡ Some options → (text : List ℕ) → source_before.bytes ≡ Some text → status ≡ 4
       → CutsOutput text sink_before sink_now (with_options options solver_before) solver
-  -- memory ran out: nothing failed, and nothing was written
-  pub out_of_memory : status ≡ 5 → (source_now.faults ≡ source_before.faults) × (sink_now ≡ sink_before)
+  -- so a failed read has no other status, and no more has a failed write
+  pub reads_kept : status ≢ 3 → source_now.faults ≡ source_before.faults
+  pub writes_kept : status ≢ 4 → sink_now.faults ≡ sink_before.faults
+  -- whatever the status, no more is read than a text may have, but for the rest of a piece, and the alarm is not asked
+  pub reads_little : ReadsNoMore most_read source_before.bytes source_now.bytes
+  pub not_asked : raised_now ≡ raised_before
+  -- memory ran out, and nothing was written
+  pub out_of_memory : status ≡ 5 → sink_now ≡ sink_before
   -- where nothing stands in the way, the formula is decided
   pub complete : (options : Options) → options_of words ≡ Some options → (text : List ℕ) → source_before.bytes ≡ Some text → (reading_of standard_limits text).end ≡ Ended
       → (Rose source_before.faults source_now.faults → ⊥) → (Rose sink_before.faults sink_now.faults → ⊥) → LeavesEnough options.max_conflicts (formula_of text)

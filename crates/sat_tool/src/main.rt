@@ -3,10 +3,10 @@
 
 mod answer;
 mod carry;
+mod failures;
 mod read;
 mod report;
 mod run;
-mod stop;
 #[cfg(test)]
 mod tests;
 mod words;

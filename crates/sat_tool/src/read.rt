@@ -1,14 +1,13 @@
-ghost use Rattle.std.specs.Prelude.{◌≡◌, ◌≢◌, ◌<◌, ◌≤◌, ◌++◌, ℕ, List, Some, Err, length, OnOk};
+ghost use Rattle.std.specs.Prelude.{◌≡◌, ◌≢◌, ◌+◌, ◌<◌, ◌≤◌, ◌++◌, ℕ, List, Some, Err, length, OnOk};
 ghost use Rattle.sat_lits.specs.Limits.{standard_limits};
 ghost use Rattle.sat_ports.specs.Causes.{Rose};
 ghost use Rattle.dimacs_text.specs.Grammar.{Refused, reading_of};
 ghost use Rattle.dimacs_text.specs.declared.refusal.Refusal.{Refusal as Why};
-ghost use Rattle.sat_tool.specs.Errors.{unread_for};
 ghost use Rattle.sat_tool.specs.Questions.{nothing_yet};
-ghost use Rattle.sat_tool.specs.Progress.{HasCarried, HasCarriedAll, ReadsAll, ReadsRefusal, settings_of};
+ghost use Rattle.sat_tool.specs.Progress.{HasCarried, HasCarriedAll, ReadsAll, ReadsRefusal, ReadsNoMore, settings_of};
 
 use crate::carry::carry_out_all;
-use crate::stop::Unread;
+use crate::failures::Unread;
 use dimacs_text::{Commands, ReadError, Reader};
 use sat_api::SatSolver;
 use sat_lits::Limits;
@@ -31,13 +30,9 @@ fn take_piece(
     ensures settings { settings_of solver.new ≡ settings_of solver.old }
 {
     let mut commands = Commands::new(alloc);
-    match reader.feed(piece, &mut commands) {
-        Ok(()) => match carry_out_all(solver, &mut commands) {
-            Ok(()) => Ok(()),
-            Err(_) => Err(ReadError::Memory),
-        },
-        Err(error) => Err(error),
-    }
+    reader.feed(piece, &mut commands)?;
+    carry_out_all(solver, &mut commands)?;
+    Ok(())
 }
 
 /// The text ends here.
@@ -51,22 +46,9 @@ fn take_end(alloc: Global, reader: &mut Reader, solver: &mut SatSolver) -> Resul
     ensures settings { settings_of solver.new ≡ settings_of solver.old }
 {
     let mut commands = Commands::new(alloc);
-    match reader.finish(&mut commands) {
-        Ok(()) => match carry_out_all(solver, &mut commands) {
-            Ok(()) => Ok(()),
-            Err(_) => Err(ReadError::Memory),
-        },
-        Err(error) => Err(error),
-    }
-}
-
-fn unread_for(error: ReadError) -> Unread
-    ensures { result ≡ unread_for error }
-{
-    match error {
-        ReadError::Refused(why) => Unread::Refused(why),
-        ReadError::Memory => Unread::Memory,
-    }
+    reader.finish(&mut commands)?;
+    carry_out_all(solver, &mut commands)?;
+    Ok(())
 }
 
 /// Reads the source to its end, piece by piece, and carries out the text's commands.
@@ -84,23 +66,19 @@ pub fn read_formula<S: Source>(
         → ReadsRefusal (S.left source.old) (S.left source.new) why }
     ensures fault { result ≡ Err Unread.Fault → Rose (S.faults source.old) (S.faults source.new) }
     ensures kept { result ≢ Err Unread.Fault → S.faults source.new ≡ S.faults source.old }
+    ensures little { ReadsNoMore (standard_limits.input + length piece.old)
+        (S.left source.old) (S.left source.new) }
     ensures settings { settings_of solver.new ≡ settings_of solver.old }
 {
     let mut reader = Reader::new(alloc, Limits::standard());
     let mut taken: u64 = 0;
     'reading: loop {
-        match source.read(piece) {
-            Err(_) => return Err(Unread::Fault),
-            Ok(0) => {
-                return match take_end(alloc, &mut reader, solver) {
-                    Ok(()) => Ok(()),
-                    Err(error) => Err(unread_for(error)),
-                };
-            }
-            Ok(count) => match take_piece(alloc, &mut reader, &piece[..count], solver) {
-                Ok(()) => taken += count as u64,
-                Err(error) => return Err(unread_for(error)),
-            },
+        let count = source.read(piece)?;
+        if count == 0 {
+            take_end(alloc, &mut reader, solver)?;
+            return Ok(());
         }
+        take_piece(alloc, &mut reader, &piece[..count], solver)?;
+        taken += count as u64;
     }
 }

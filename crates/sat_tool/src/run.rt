@@ -3,13 +3,14 @@ ghost use Rattle.sat_lits.specs.Limits.{standard_limits};
 ghost use Rattle.sat_api.specs.State.{new_solver};
 ghost use Rattle.sat_tool.specs.Questions.{nothing_yet};
 ghost use Rattle.sat_tool.specs.Writing.{port};
+ghost use Rattle.sat_tool.specs.Progress.{ReadsNoMore};
 ghost use Rattle.sat_tool.specs.Reports.{status_of};
-ghost use Rattle.sat_tool.specs.Runs.{AnswersText, StopsRight, RunsRight};
+ghost use Rattle.sat_tool.specs.Runs.{AnswersText, StopsRight, RunsRight, most_read};
 
 use crate::answer::{answer, refuse};
 use crate::read::read_formula;
 use crate::report::Report;
-use crate::stop::{Stop, Unread};
+use crate::failures::{NoReport, Unread};
 use crate::words::read_words;
 use sat_api::SatSolver;
 use sat_ports::{Alarm, Sink, Source};
@@ -27,27 +28,29 @@ fn serve<R: Threads + Sync, S: Source, K: Sink, A: Alarm + Send>(
     sink: &mut K,
     alarm: &mut A,
     solver: &mut SatSolver,
-) -> Result<Report, Stop>
+) -> Result<Report, NoReport>
     requires empty { solver.old.problem ≡ nothing_yet }
     requires limits { solver.old.limits ≡ standard_limits }
     ensures ok { IfOk result (λ report. AnswersText (status_of report)
         (port (S.left source.old) (S.faults source.old)) (port (S.left source.new) (S.faults source.new))
         (port (K.written sink.old) (K.faults sink.old)) (port (K.written sink.new) (K.faults sink.new))
         solver.old solver.new) }
-    ensures err { IfErr result (λ stop. StopsRight stop
+    ensures err { IfErr result (λ without. StopsRight without
         (port (S.left source.old) (S.faults source.old)) (port (S.left source.new) (S.faults source.new))
         (port (K.written sink.old) (K.faults sink.old)) (port (K.written sink.new) (K.faults sink.new))
         solver.old solver.new) }
     ensures limit { solver.new.max_conflicts ≡ solver.old.max_conflicts }
+    ensures little { ReadsNoMore most_read (S.left source.old) (S.left source.new) }
+    ensures raises { A.raises alarm.new ≡ A.raises alarm.old }
 {
     let Ok(mut piece) = Vec::from_elem(alloc, 0u8, PIECE) else {
-        return Err(Stop::Memory);
+        return Err(NoReport::Memory);
     };
     match read_formula(alloc, source, &mut piece, solver) {
         Ok(()) => answer(rt, alloc, sink, alarm, solver),
-        Err(Unread::Fault) => Err(Stop::Read),
+        Err(Unread::Fault) => Err(NoReport::Read),
         Err(Unread::Refused(why)) => Err(refuse(alloc, sink, why)),
-        Err(Unread::Memory) => Err(Stop::Memory),
+        Err(Unread::Memory) => Err(NoReport::Memory),
     }
 }
 
@@ -75,7 +78,7 @@ pub fn run<R: Threads + Sync, S: Source, K: Sink, A: Alarm + Send>(
     ensures { RunsRight (map (λ word. word.now) words.now) result
         (port (S.left source.old) (S.faults source.old)) (port (S.left source.new) (S.faults source.new))
         (port (K.written sink.old) (K.faults sink.old)) (port (K.written sink.new) (K.faults sink.new))
-        solver.old solver.new }
+        (A.raises alarm.old) (A.raises alarm.new) solver.old solver.new }
 {
     let Some(options) = read_words(words) else {
         return 1;
@@ -83,6 +86,6 @@ pub fn run<R: Threads + Sync, S: Source, K: Sink, A: Alarm + Send>(
     solver.set_max_confl(options.max_conflicts);
     match serve(rt, alloc, source, sink, alarm, solver) {
         Ok(report) => report.status(),
-        Err(stop) => stop.status(),
+        Err(without) => without.status(),
     }
 }

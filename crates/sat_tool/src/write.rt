@@ -7,7 +7,7 @@ ghost use Rattle.sat_tool.specs.Writing.{port, WritesText};
 ghost use Rattle.sat_tool.specs.Reports.{text_of_report};
 
 use crate::report::Report;
-use crate::stop::Halt;
+use crate::failures::Halt;
 use dimacs_text::{Refusal, print_limit, print_refusal, print_verdict};
 use sat_lits::{List, NoMemory};
 use sat_ports::{Failed, Sink};
@@ -21,10 +21,7 @@ fn write_all<K: Sink>(sink: &mut K, bytes: &[u8]) -> Result<(), Failed>
 {
     let mut at = 0;
     while at < bytes.len() {
-        match sink.write(&bytes[at..]) {
-            Ok(count) => at += count,
-            Err(failed) => return Err(failed),
-        }
+        at += sink.write(&bytes[at..])?;
     }
     Ok(())
 }
@@ -44,13 +41,9 @@ pub fn write_report<K: Sink>(alloc: Global, sink: &mut K, report: &Report) -> Re
         (port (K.written sink.old) (K.faults sink.old)) (port (K.written sink.new) (K.faults sink.new)) }
 {
     let mut text = List::new(alloc);
-    match print_report(&mut text, report) {
-        Ok(()) => match write_all(sink, text.as_slice()) {
-            Ok(()) => Ok(()),
-            Err(_) => Err(Halt::Write),
-        },
-        Err(_) => Err(Halt::Memory),
-    }
+    print_report(&mut text, report)?;
+    write_all(sink, text.as_slice())?;
+    Ok(())
 }
 
 /// Writes the text of a refusal.
@@ -59,11 +52,7 @@ pub fn write_refusal<K: Sink>(alloc: Global, sink: &mut K, why: &Refusal) -> Res
         (port (K.written sink.old) (K.faults sink.old)) (port (K.written sink.new) (K.faults sink.new)) }
 {
     let mut text = List::new(alloc);
-    match print_refusal(&mut text, why) {
-        Ok(()) => match write_all(sink, text.as_slice()) {
-            Ok(()) => Ok(()),
-            Err(_) => Err(Halt::Write),
-        },
-        Err(_) => Err(Halt::Memory),
-    }
+    print_refusal(&mut text, why)?;
+    write_all(sink, text.as_slice())?;
+    Ok(())
 }

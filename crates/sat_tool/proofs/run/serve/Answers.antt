@@ -9,7 +9,7 @@ returns-in-Ok-read_formula-clause-ok g c =
     IfOk-weaker c.answer.result _ _ (λ r h. answers_text (status_of r)
     (port (g.S.Source.left c.args.source.now) (g.S.Source.faults c.args.source.now)) (port (g.S.Source.left c.read_formula.new.source) (g.S.Source.faults c.read_formula.new.source))
     (port (g.K.Sink.written c.args.sink.now) (g.K.Sink.faults c.args.sink.now)) (port (g.K.Sink.written c.answer.new.sink) (g.K.Sink.faults c.answer.new.sink))
-    c.args.solver.now c.read_formula.new.solver c.answer.new.solver c.in-Ok-read_formula.ensures.ok c.read_formula.ensures.settings c.answer.ensures.problem h) c.answer.ensures.ok
+    c.args.solver.now c.read_formula.new.solver c.answer.new.solver c.in-Ok-read_formula.ensures.ok c.read_formula.ensures.settings (c.in-Ok-read_formula.ensures.kept (λ e. cc)) c.answer.ensures.problem h) c.answer.ensures.ok
 
 pub returns-in-Ok-read_formula-clause-err : goal.returns-in-Ok-read_formula-clause-err
 returns-in-Ok-read_formula-clause-err g c =

@@ -3,6 +3,7 @@ use Rattle.std.specs.declared.option.Option.{Option}
 use Rattle.std.specs.Io.KnownBytes.{Appends}
 use Rattle.std.proofs.Math.Seq.{take-add}
 use Rattle.std.proofs.lemmas.List.{take_all}
+use Rattle.std.proofs.lemmas.Result.{err_from_is_err_and}
 use Rattle.std.proofs.KnownBytes.{Appends-trans}
 use Rattle.sat_tool.proofs.write.write_all.Goals as goal
 
@@ -17,19 +18,20 @@ one_more a b c xs at n p q =
 within_more : (xs : List ℕ) (at n : ℕ) → at < length xs → n ≤ length (take (length xs - at) (drop at xs)) → at + n ≤ length xs
 within_more xs at n p q = let e = ap length (rest_of xs at) in let l = length-drop at xs in omega (arith, e, l)
 
-pub returns-in-Err-clause-err : goal.returns-in-Err-clause-err
-returns-in-Err-clause-err g c =
+pub returns-in_err-at-clause-err : goal.returns-in_err-at-clause-err
+returns-in_err-at-clause-err g c =
     let f = g.K.Sink.written in
-    let w = c.in-Err.ensures.bytes in
+    let w = c.in_err-at.ensures.bytes in
+    let p = err_from_is_err_and c.from_residual.result c.from_residual.ensures.1 in
     let xs = c.args.bytes.now in
-    (c.loop-at.at + w.0, within_more xs c.loop-at.at w.0 c.loop-at-test.true w.1, one_more (f c.args.sink.now) (f c.loop-at.sink) (f c.write.new.self) xs c.loop-at.at w.0 c.loop-at.invariant.appended w.2)
+    rw p.1 (c.loop-at.at + w.0, within_more xs c.loop-at.at w.0 c.loop-at-test.true w.1, one_more (f c.args.sink.now) (f c.loop-at.sink) (f c.write.new.self) xs c.loop-at.at w.0 c.loop-at.invariant.appended w.2)
 
 pub loop-at-preserved : goal.loop-at-preserved
 loop-at-preserved g c =
     let f = g.K.Sink.written in
     let xs = c.args.bytes.now in
     record {
-      within = within_more xs c.loop-at.at c.in-Ok.count c.loop-at-test.true c.in-Ok.ensures.advances.within;
-      appended = one_more (f c.args.sink.now) (f c.loop-at.sink) (f c.write.new.self) xs c.loop-at.at c.in-Ok.count c.loop-at.invariant.appended c.in-Ok.ensures.bytes;
-      kept = c.in-Ok.ensures.cause.kept ∙ c.loop-at.invariant.kept;
+      within = within_more xs c.loop-at.at c.in_ok-at.field-0 c.loop-at-test.true c.in_ok-at.ensures.advances.within;
+      appended = one_more (f c.args.sink.now) (f c.loop-at.sink) (f c.write.new.self) xs c.loop-at.at c.in_ok-at.field-0 c.loop-at.invariant.appended c.in_ok-at.ensures.bytes;
+      kept = c.in_ok-at.ensures.cause.kept ∙ c.loop-at.invariant.kept;
     }

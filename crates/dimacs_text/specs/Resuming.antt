@@ -10,7 +10,7 @@ use Rattle.dimacs_text.specs.Commands.{item_of}
 use Rattle.dimacs_text.specs.Steps.{extended}
 use Rattle.dimacs_text.specs.declared.token.Word.{Word}
 use Rattle.dimacs_text.specs.declared.token.Word.TheVariants.{Empty}
-use Rattle.dimacs_text.specs.declared.state.State.{State}
+use Rattle.dimacs_text.specs.declared.reader.Reader.{Reader}
 use Rattle.dimacs_text.specs.declared.command.Command.{Command}
 
 -- no byte of it is a blank
@@ -34,12 +34,12 @@ rest_at whole limits place commands true l text = closed whole limits place comm
 rest_at whole limits place commands false l text = reading_from whole limits place (record { commands = commands; count = l.count }) text
 
 -- the open clause of a state
-abbrev pub listing_in : State → Listing
+abbrev pub listing_in : Reader → Listing
 listing_in st = record { lits = st.lits; count = st.count }
 
 -- The state of a reader that was fed a text and gave these commands: `done` is what is judged, and `held` the token
 -- that has begun at the place `start`. Whatever follows, the reading goes on from the state.
-pub record Stands (text : List ℕ) (commands : List Command) (st : State) : Type 0 where
+pub record Resumes (text : List ℕ) (commands : List Command) (st : Reader) : Type 0 where
   pub done : List ℕ
   pub held : List ℕ
   pub start : ℕ
@@ -53,7 +53,7 @@ pub record Stands (text : List ℕ) (commands : List Command) (st : State) : Typ
   pub rest : (whole : Bool) (tail : List ℕ) → read whole st.limits (done ++ tail) ≡ rest_at whole st.limits start commands st.in_clause (listing_in st) tail
 
 -- the literals of the commands and of the open clause are counted and within the limits
-pub record Counts (commands : List Command) (st : State) : Type 0 where
+pub record Counts (commands : List Command) (st : Reader) : Type 0 where
   pub known : list_all (names_known st.limits.vars) (map item_of commands) ≡ true
   pub known_open : names_known st.limits.vars (ClauseItem st.lits) ≡ true
   pub count : st.count ≡ lit_count (map item_of commands) + length st.lits

@@ -2,9 +2,9 @@
 use Rattle.std.proofs.Common.{◌≡◌, ℕ, Bool, true, false, ◌||◌, List, ◌+◌, ◌≤◌, length, take, nat_lt, nat_le, refl, sym, ◌∙◌, subst}
 use Rattle.std.proofs.lemmas.Bool.{leb-true}
 use Rattle.sat_lits.specs.Limits.{LimitNumbers}
-use Rattle.dimacs_text.specs.Walk.{Turn, Next, Stop, turned, word}
+use Rattle.dimacs_text.specs.Walk.{Advance, Next, Last, advanced, word}
 use Rattle.dimacs_text.specs.Tokens.{literal_token, is_judged}
-use Rattle.dimacs_text.specs.Grammar.{Sofar, Listing, Literals, Listed, Broken, End, Ended, Refused, Open, Reading, read, reading_of, cut_off, reading_from, literals, literal_met, literal_turn, literals_end, phrase, clause_turn, listing_of, text_end, with_clause, with_literal, nothing_read}
+use Rattle.dimacs_text.specs.Grammar.{Sofar, Listing, Literals, Listed, Broken, End, Ended, Refused, Open, Reading, read, reading_of, cut_off, reading_from, literals, literal_met, literal_advance, literals_end, phrase, clause_advance, listing_of, text_end, with_clause, with_literal, nothing_read}
 use Rattle.dimacs_text.specs.Reads.{IsClosed}
 use Rattle.dimacs_text.specs.declared.token.Token.{Token}
 use Rattle.dimacs_text.specs.declared.token.Token.TheVariants.{Ending, Literal, TooLarge, NoLiteral}
@@ -26,27 +26,27 @@ or_false_left false v e = refl
 module _ (P : End → Type 0) (limits : LimitNumbers) (whole : Bool) (refused : P (Refused NotPlain)) (ended : whole ≡ true → P Ended) (opened : whole ≡ false → P Open) where
   -- the end that comes instead of a list
   literals-end : (place : ℕ) (l : Listing) (text : List ℕ) → IfBroken (literals whole limits place l text) P
-  unfolding literals literals_end literal_turn is_judged literal_met
+  unfolding literals literals_end literal_advance is_judged literal_met
   literals-end place l text =
-      walk-keeps (literal_turn whole limits) (literals_end whole) (λ a r. IfBroken r P) (at_end whole refl)
+      walk-keeps (literal_advance whole limits) (literals_end whole) (λ a r. IfBroken r P) (at_end whole refl)
       (λ p a t on h. judged (is_judged whole t) (λ e. opened (or_false_left whole _ e)) (p + length (word t)) a (literal_token limits.vars (word t)) on h) text place place l
     where
       at_end : (v : Bool) → whole ≡ v → (p : ℕ) (a : Listing) → IfBroken (literals_end v p a) P
       at_end true e p a = refused
       at_end false e p a = opened e
 
-      met : (after : ℕ) (a : Listing) (t : Token) (on : ℕ → Listing → Literals) → ((n : ℕ) (a' : Listing) → IfBroken (on n a') P) → IfBroken (turned (literal_met limits after a t) on) P
+      met : (after : ℕ) (a : Listing) (t : Token) (on : ℕ → Listing → Literals) → ((n : ℕ) (a' : Listing) → IfBroken (on n a') P) → IfBroken (advanced (literal_met limits after a t) on) P
       met after a Ending on h = tt
       met after a (Literal lit) on h = go (nat_lt a.count limits.lits)
         where
-          go : (v : Bool) → IfBroken (turned (elim v as (λ _. Turn Listing Literals) [ true ↦ Next after (with_literal a lit) | false ↦ Stop (Broken (Refused NotPlain)) ]) on) P
+          go : (v : Bool) → IfBroken (advanced (elim v as (λ _. Advance Listing Literals) [ true ↦ Next after (with_literal a lit) | false ↦ Last (Broken (Refused NotPlain)) ]) on) P
           go true = h after (with_literal a lit)
           go false = refused
       met after a TooLarge on h = refused
       met after a NoLiteral on h = refused
 
       judged : (v : Bool) → (v ≡ false → P Open) → (after : ℕ) (a : Listing) (t : Token) (on : ℕ → Listing → Literals) → ((n : ℕ) (a' : Listing) → IfBroken (on n a') P)
-          → IfBroken (turned (elim v as (λ _. Turn Listing Literals) [ true ↦ literal_met limits after a t | false ↦ Stop (Broken Open) ]) on) P
+          → IfBroken (advanced (elim v as (λ _. Advance Listing Literals) [ true ↦ literal_met limits after a t | false ↦ Last (Broken Open) ]) on) P
       judged true o after a t on h = met after a t on h
       judged false o after a t on h = o refl
 
@@ -61,7 +61,7 @@ module _ (P : End → Type 0) (limits : LimitNumbers) (whole : Bool) (refused : 
       at_end true e p a = ended e
       at_end false e p a = opened e
 
-      met : (commands : List Command) (r : Literals) → IfBroken r P → (on : ℕ → Sofar → Reading) → ((n : ℕ) (a' : Sofar) → P (on n a').end) → P (turned (clause_turn commands r) on).end
+      met : (commands : List Command) (r : Literals) → IfBroken r P → (on : ℕ → Sofar → Reading) → ((n : ℕ) (a' : Sofar) → P (on n a').end) → P (advanced (clause_advance commands r) on).end
       met commands (Listed l after) broken on h = h after (with_clause commands l)
       met commands (Broken end) broken on h = broken
 

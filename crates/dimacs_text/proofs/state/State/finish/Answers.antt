@@ -1,8 +1,0 @@
-use Rattle.dimacs_text.proofs.Calls.{ends_goes, ends_refused}
-use Rattle.dimacs_text.proofs.state.State.finish.Goals as goal
-
-pub returns-in-Ok-clause-ok : goal.returns-in-Ok-clause-ok
-returns-in-Ok-clause-ok c = ends_goes _ _ _ _ c.in-Ok.ensures
-
-pub returns-in-Err-clause-refused : goal.returns-in-Err-clause-refused
-returns-in-Err-clause-refused c = λ why e. ends_refused _ c.end_step.new.self _ _ c.in-Err.error why e c.in-Err.ensures
