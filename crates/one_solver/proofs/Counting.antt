@@ -7,7 +7,7 @@ use Rattle.std.proofs.lemmas.Bool.{cases_lt}
 use Rattle.std.proofs.lemmas.List.{length-map}
 use Rattle.std.proofs.lemmas.List.FromFn.{sum_by-map-range_with_len_more}
 use Rattle.sat_lits.specs.Conflicts.{own_count, interval_len, intervals_len, intervals_for, enough}
-use Rattle.sat_lits.specs.ConflictLaws.{intervals_count, intervals_len_sum}
+use Rattle.sat_lits.specs.ConflictLaws.{intervals_count, intervals_len-suc}
 use Rattle.sat_lits.specs.Verdicts.{IsFailed}
 use Rattle.sat_lits.specs.Meaning.{Problem}
 use Rattle.sat_lits.specs.declared.literal.Own.{Own}
@@ -37,19 +37,12 @@ active_few k m s b =
     let d : length (map is_some k.maps.inners) ≡ length k.definitions = s.stands.places.lengths in
     omega (arith, m.inner_len, length-map k.maps.inners is_some, outer_length k b)
 
--- one interval more adds its length
-longer : (n : ℕ) → intervals_len (suc n) ≡ intervals_len n + interval_len n
-longer n =
-    intervals_len_sum (suc n)
-    ∙ (sym (sym (sum_by-map-range_with_len_more (λ m. m) interval_len 0 n n (omega arith)) ∙ ap (λ m. sum (map interval_len (range_with_len 0 m))) (add-one n))
-    ∙ ap (λ m. m + interval_len n) (sym (intervals_len_sum n)))
-
 -- more intervals have no fewer conflicts
 grow : (i d : ℕ) → intervals_len i ≤ intervals_len (i + d)
 grow i zero = let e : intervals_len i ≡ intervals_len (i + 0) = ap intervals_len (let z : i ≡ i + 0 = omega arith in z) in omega arith
 grow i (suc d) =
     let e : intervals_len (i + suc d) ≡ intervals_len (suc (i + d)) = ap intervals_len (let z : i + suc d ≡ suc (i + d) = omega arith in z) in
-    let f : intervals_len (suc (i + d)) ≡ intervals_len (i + d) + interval_len (i + d) = longer (i + d) in
+    let f : intervals_len (suc (i + d)) ≡ intervals_len (i + d) + interval_len (i + d) = intervals_len-suc (i + d) in
     let g : intervals_len i ≤ intervals_len (i + d) = grow i d in omega arith
 
 no_fewer : (i j : ℕ) → i ≤ j → intervals_len i ≤ intervals_len j
@@ -121,7 +114,7 @@ ends old new limit c a u w own below few active t next same = record {
     first = own_interval old.interval c own
 
     one : intervals_len (suc old.interval) ≡ intervals_len old.interval + interval_len old.interval
-    one = longer old.interval
+    one = intervals_len-suc old.interval
 
     sum : new.conflicts ≡ old.conflicts + c
     sum =

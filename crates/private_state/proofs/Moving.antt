@@ -1,6 +1,5 @@
 -- What a kernel that stands lets its moves do.
 use Rattle.std.proofs.Common.{◌≡◌, ℕ, ◌+◌, ◌<◌, ◌≤◌, true, false, cond, List, ◌++◌, Option, Some, None, refl, sym, ap, ap₂, subst, ◌∙◌, arith, length, map, is_some, option_map, option_to_list, take, drop, append-nil, drop_of_length-le, take_all}
-use Rattle.std.specs.Prelude.{if◌then◌else◌, is_ok, Result, Ok}
 use Rattle.std.specs.List.{list_all, list_any}
 use Rattle.sat_lits.specs.ListLaws.{all_mono}
 use Rattle.sat_lits.specs.declared.literal.OwnLit.{OwnLit}
@@ -89,7 +88,3 @@ written_back n xs ys e f =
     let b : xs ++ drop (length xs) ys ≡ xs = rw (drop_of_length-le ys a) (append-nil xs) in
     let d : length xs ≤ n = omega arith in
     ap (take n) b ∙ take_all n xs d
-
--- a list after a push that was answered by Ok
-pub pushed : {X E : Type 0} (r : Result (Unit {0}) E) (u : Unit {0}) (xs ys zs : List X) → zs ≡ (if is_ok r then ys else xs) → r ≡ Ok u → zs ≡ ys
-pushed r u xs ys zs e h = e ∙ ap (λ q. if is_ok q then ys else xs) h

@@ -21,9 +21,9 @@ less_one : (n : ℕ) → suc n - 1 ≡ n
 less_one n = omega arith
 
 -- one interval more adds its length
-more : (n : ℕ) → intervals_len (suc n) ≡ intervals_len n + interval_len n
-more zero = refl
-more (suc n) = rw (less_one (suc n), less_one n) (products n (suc n) refl)
+pub intervals_len-suc : (n : ℕ) → intervals_len (suc n) ≡ intervals_len n + interval_len n
+intervals_len-suc zero = refl
+intervals_len-suc (suc n) = rw (less_one (suc n), less_one n) (products n (suc n) refl)
 
 -- an interval before the first long one is too short
 short : (p q j k : ℕ) → q ≡ (p - 100 + 19) / 20 → j < k → k < q + 1 → 100 + 20 * j < p
@@ -59,7 +59,7 @@ intervals_count n k = (forth (3 ^ n) ((3 ^ n - 100 + 19) / 20) refl, back (3 ^ n
 pub intervals_len_sum : (count : ℕ) → intervals_len count ≡ sum (map interval_len (range_with_len 0 count))
 intervals_len_sum zero = refl
 intervals_len_sum (suc count) =
-    more count
+    intervals_len-suc count
     ∙ (ap (λ n. n + interval_len count) (intervals_len_sum count)
     ∙ (sym (sum_by-map-range_with_len_more (λ n. n) interval_len 0 count count (omega arith)) ∙ ap (λ n. sum (map interval_len (range_with_len 0 n))) (add-one count)))
 

@@ -1,5 +1,6 @@
 -- Facts on tests of the elements of a list. `list_all` and `list_any` go by cases on the list, so each is an induction.
 use Rattle.std.proofs.Common.{◌≡◌, ◌⊎◌, ℕ, zero, suc, ◌<◌, Bool, true, false, cond, ◌&&◌, ◌||◌, List, [], ◌∷◌, ◌++◌, length, map, filter, take, drop, get_or, Some, refl, sym, ap, ap₂, ◌∙◌, ⊎_elim}
+use Rattle.std.specs.Prelude.{if◌then◌else◌, is_ok, Result, Ok}
 use Rattle.std.specs.List.{list_all, list_any, slice_get}
 use Rattle.std.proofs.lemmas.Bool.{and_parts, and_from, or_cases, or_left, or_right, false≢true}
 use Rattle.std.proofs.lemmas.List.{take-append-drop}
@@ -151,3 +152,14 @@ pub all_front : {X : Type 0} (p : X → Bool) (n : ℕ) (xs : List X) → list_a
 all_front p n xs e =
     let parts : (list_all p (take n xs) && list_all p (drop n xs)) ≡ true = sym (list_all-append p (take n xs) (drop n xs)) ∙ (ap (list_all p) (take-append-drop n xs) ∙ e) in
     (and_parts (list_all p (take n xs)) (list_all p (drop n xs)) parts).0
+
+-- where each element passes, the filter leaves all
+pub filter_all : {X : Type 0} (p : X → Bool) (xs : List X) → list_all p xs ≡ true → filter p xs ≡ xs
+filter_all p [] e = refl
+filter_all p (x ∷ xs) e =
+    let a : (p x ≡ true) × (list_all p xs ≡ true) = and_parts _ _ e in
+    rw a.0 (ap (λ z. x ∷ z) (filter_all p xs a.1))
+
+-- a list after a push that was answered by Ok
+pub pushed : {X E : Type 0} (r : Result (Unit {0}) E) (u : Unit {0}) (xs ys zs : List X) → zs ≡ (if is_ok r then ys else xs) → r ≡ Ok u → zs ≡ ys
+pushed r u xs ys zs e h = e ∙ ap (λ q. if is_ok q then ys else xs) h

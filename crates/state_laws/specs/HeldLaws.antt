@@ -5,19 +5,12 @@ use Rattle.std.proofs.lemmas.List.{map-append}
 use Rattle.std.proofs.lemmas.List.Folds.{list_any-append}
 use Rattle.std.proofs.lemmas.List.Elements.{filter-append}
 use Rattle.std.specs.List.{list_all}
-use Rattle.sat_lits.specs.ListLaws.{all_mono, all_push}
+use Rattle.sat_lits.specs.ListLaws.{all_mono, all_push, filter_all}
 use Rattle.sat_lits.specs.declared.literal.ClauseId.{ClauseId}
 use Rattle.clause_store.specs.Store.{Store, Held, IsKept, held_as, clause_at, is_live, without, rising}
 use Rattle.state_laws.specs.Held.{InClause, strip, numbers, is_among, Adds, ExtendsBy}
 
--- where each element passes, the filter leaves all
-pub filter_all : {X : Type 0} (p : X → Bool) (xs : List X) → list_all p xs ≡ true → filter p xs ≡ xs
-filter_all p [] e = refl
-filter_all p (x ∷ xs) e =
-    let a : (p x ≡ true) × (list_all p xs ≡ true) = and_parts _ _ e in
-    rw a.0 (ap (λ z. x ∷ z) (filter_all p xs a.1))
-
--- where none does, it leaves nothing
+-- where no element passes, the filter leaves nothing
 pub filter_none : {X : Type 0} (p : X → Bool) (xs : List X) → list_all (λ x. not (p x)) xs ≡ true → filter p xs ≡ []
 filter_none p [] e = refl
 filter_none p (x ∷ xs) e =

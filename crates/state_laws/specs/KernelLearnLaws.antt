@@ -17,7 +17,7 @@ use Rattle.state_laws.specs.Conditions.{Learnable, IsContradicted}
 use Rattle.state_laws.specs.Held.{own_clause, own_clauses}
 use Rattle.state_laws.specs.Kernel.{Kernel, no_kernel, state_of, Standing, IsLearnedId, IsImplied}
 use Rattle.state_laws.specs.LearnLaws.{with_hard-Stands, with_learned-Stands, learning-Stands, refuted-Stands}
-use Rattle.state_laws.specs.HeldLaws.{filter_all}
+use Rattle.sat_lits.specs.ListLaws.{filter_all}
 use Rattle.state_laws.specs.ViewLaws.{clauses_of, clauses_of-append, fewer_pass}
 
 none_below : (k : ℕ) (b : Bool) → ltb k 0 ≡ b → 0 + cond {A = ℕ} false 1 0 ≡ cond {A = ℕ} b 1 0

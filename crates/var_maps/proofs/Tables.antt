@@ -3,7 +3,6 @@ use Rattle.std.proofs.Common.{◌≡◌, ℕ, zero, suc, ◌<◌, ◌≤◌, ◌
 use Rattle.std.proofs.lemmas.Bool.{eqb-false, false≢true}
 use Rattle.std.specs.Option.{is_some}
 use Rattle.std.specs.List.{slice_get}
-use Rattle.std.specs.Prelude.{if◌then◌else◌, is_ok, Result, Ok}
 
 -- the test of two successors is that of the numbers
 eqb_suc : (j n : ℕ) → (suc j == suc n) ≡ (j == n)
@@ -57,7 +56,3 @@ pub read_some : {X : Type 0} (xs : List (Option X)) (k : ℕ) (r : Option X) →
 read_some [] k r h e = absurd (omega arith)
 read_some (x ∷ xs) zero r h e = sym e
 read_some (x ∷ xs) (suc k) r h e = read_some xs k r (omega arith) e
-
--- a list after a push that was answered by Ok
-pub pushed : {X E : Type 0} (r : Result (Unit {0}) E) (u : Unit {0}) (xs ys zs : List X) → zs ≡ (if is_ok r then ys else xs) → r ≡ Ok u → zs ≡ ys
-pushed r u xs ys zs e h = e ∙ ap (λ q. if is_ok q then ys else xs) h

@@ -12,7 +12,8 @@ use Rattle.state_laws.specs.KernelExtendLaws.{with_outer, grown_state, grown-Sta
 use Rattle.state_laws.specs.ExtendLaws.{grown_none, grown_more}
 use Rattle.private_state.specs.Removed.{Removed}
 use Rattle.private_state.specs.Kept.{kernel_of}
-use Rattle.private_state.proofs.Moving.{plain-Standing, plain_state, reserved_kernel, pushed}
+use Rattle.private_state.proofs.Moving.{plain-Standing, plain_state, reserved_kernel}
+use Rattle.sat_lits.specs.ListLaws.{pushed}
 use Rattle.private_state.proofs.state.PrivateState.grow.Goals as goal
 
 pub invariant_of-self : goal.invariant_of-self

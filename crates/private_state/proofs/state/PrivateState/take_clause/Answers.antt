@@ -10,7 +10,8 @@ use Rattle.state_laws.specs.Kernel.{Kernel, state_of}
 use Rattle.state_laws.specs.KernelTakeLaws.{HoldsMore, own_form_outer, takable_there, takable_active, taken_state, taken-Standing}
 use Rattle.private_state.specs.Fresh.{hard_in}
 use Rattle.private_state.specs.Kept.{kernel_of}
-use Rattle.private_state.proofs.Moving.{stored_form, pushed}
+use Rattle.private_state.proofs.Moving.{stored_form}
+use Rattle.sat_lits.specs.ListLaws.{pushed}
 use Rattle.private_state.proofs.state.PrivateState.take_clause.Goals as goal
 
 pub own_form-requires-clause-there : goal.own_form-requires-clause-there

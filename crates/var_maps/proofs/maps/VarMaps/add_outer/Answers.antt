@@ -4,7 +4,7 @@ use Rattle.sat_lits.specs.declared.literal.Inner.{Inner}
 use Rattle.sat_lits.specs.declared.literal.Var.{Var}
 use Rattle.var_maps.specs.Maps.{Maps, plain}
 use Rattle.var_maps.specs.Kept.{maps_of}
-use Rattle.var_maps.proofs.Tables.{pushed}
+use Rattle.sat_lits.specs.ListLaws.{pushed}
 use Rattle.var_maps.proofs.Matching.{added_free, outer_added, added_matched, added_numbered, added_plain}
 use Rattle.var_maps.proofs.maps.VarMaps.add_outer.Goals as goal
 
