@@ -1,19 +1,13 @@
 -- The clauses at places, as a list of held clauses.
-use Rattle.std.proofs.Common.{◌≡◌, ℕ, zero, suc, ◌+◌, ◌<◌, ◌≤◌, Bool, true, false, eqb, ltb, List, [], ◌∷◌, ◌++◌, length, get_or, set, take, ap₂, filter, Option, Some, None, option_map, option_to_list, refl, sym, ap, ◌∙◌, arith, append-nil, ne_eqb, eq-eqb, lt-ltb, ltb-true, subst, nat_le}
+use Rattle.std.proofs.Common.{◌≡◌, ℕ, zero, suc, ◌+◌, ◌<◌, ◌≤◌, Bool, true, false, eqb, ltb, List, [], ◌∷◌, ◌++◌, length, get_or, set, take, filter, Option, Some, None, option_map, option_to_list, refl, sym, ap, ◌∙◌, arith, append-nil, ne_eqb, eq-eqb, lt-ltb, ltb-true, nat_le}
 use Rattle.std.proofs.lemmas.Bool.{and_from, false≢true, ltb-false, le-leb, lt-leb}
-use Rattle.std.proofs.Math.ListN.{length-set}
 use Rattle.std.specs.List.{list_all}
 use Rattle.std.specs.Option.{is_some}
-use Rattle.std.proofs.lemmas.List.Folds.{list_all-map}
-use Rattle.sat_lits.specs.InLits.{is_distinct}
-use Rattle.sat_lits.specs.declared.literal.ClauseId.{ClauseId}
-use Rattle.sat_lits.specs.declared.literal.InLit.{InLit}
-use Rattle.clause_store.specs.declared.store.Clause.{Clause}
-use Rattle.clause_store.specs.Store.{Held, held_as, clause_at, is_live, before, without, contents, rising, IsKept, Store}
-use Rattle.clause_store.specs.Places.{held_from}
+use Rattle.clause_store.specs.Store.{Held, held_as, clause_at, is_live, before, without, rising}
+use Rattle.clause_store.specs.Words.{Stored, held_from}
 
 -- a clause, seen with its place as its id
-abbrev pub seen : ℕ → Clause → Held
+abbrev pub seen : ℕ → Stored → Held
 seen id clause = held_as id clause.learned clause.lits
 
 ne_below : (a b : ℕ) → a < b → eqb a b ≡ false
@@ -23,41 +17,33 @@ ne_above : (a b : ℕ) → b < a → eqb a b ≡ false
 ne_above a b l = ne_eqb a b (λ e. absurd (omega arith))
 
 -- no clause has an id below the first place
-clause_at-below : (n id : ℕ) (ps : List (Option Clause)) → id < n → clause_at (held_from n ps) id ≡ None
+clause_at-below : (n id : ℕ) (ps : List (Option Stored)) → id < n → clause_at (held_from n ps) id ≡ None
 clause_at-below n id [] l = refl
 clause_at-below n id (None ∷ ps) l = clause_at-below (suc n) id ps (omega arith)
 clause_at-below n id (Some c ∷ ps) l = rw (ne_above n id l) (clause_at-below (suc n) id ps (omega arith))
 
 -- nor one past the last place
-clause_at-past : (n id : ℕ) (ps : List (Option Clause)) → n + length ps ≤ id → clause_at (held_from n ps) id ≡ None
+clause_at-past : (n id : ℕ) (ps : List (Option Stored)) → n + length ps ≤ id → clause_at (held_from n ps) id ≡ None
 clause_at-past n id [] l = refl
 clause_at-past n id (None ∷ ps) l = clause_at-past (suc n) id ps (omega arith)
 clause_at-past n id (Some c ∷ ps) l = rw (ne_below n id (omega arith)) (clause_at-past (suc n) id ps (omega arith))
 
 -- the clause of an id is the one at that place
-clause_at-place : (n j id : ℕ) (ps : List (Option Clause)) (p : Option Clause) → id ≡ n + j → p ≡ get_or ps j p → j < length ps → clause_at (held_from n ps) id ≡ option_map (seen id) p
+clause_at-place : (n j id : ℕ) (ps : List (Option Stored)) (p : Option Stored) → id ≡ n + j → p ≡ get_or ps j p → j < length ps → clause_at (held_from n ps) id ≡ option_map (seen id) p
 clause_at-place n j id [] p i e l = absurd (omega arith)
 clause_at-place n zero id (None ∷ ps) p i e l = rw e (clause_at-below (suc n) id ps (omega arith))
 clause_at-place n zero id (Some c ∷ ps) p i e l = let k : id ≡ n = omega arith in rw (e, k, eq-eqb n n refl) refl
 clause_at-place n (suc j) id (None ∷ ps) p i e l = clause_at-place (suc n) j id ps p (omega arith) e (omega arith)
 clause_at-place n (suc j) id (Some c ∷ ps) p i e l = rw (ne_below n id (omega arith)) (clause_at-place (suc n) j id ps p (omega arith) e (omega arith))
 
--- a place more at the end
-held_from-push : (n : ℕ) (ps : List (Option Clause)) (c : Clause) → held_from n (ps ++ Some c ∷ []) ≡ held_from n ps ++ seen (n + length ps) c ∷ []
-held_from-push n [] c = let e : n + 0 ≡ n = omega arith in rw e refl
-held_from-push n (None ∷ ps) c = let e : n + suc (length ps) ≡ suc n + length ps = omega arith in rw e (held_from-push (suc n) ps c)
-held_from-push n (Some d ∷ ps) c =
-    let e : n + suc (length ps) ≡ suc n + length ps = omega arith in
-    rw e (ap (λ (z : List Held). seen n d ∷ z) (held_from-push (suc n) ps c))
-
 -- no later clause has an earlier id
-without-below : (n id : ℕ) (ps : List (Option Clause)) → id < n → without id (held_from n ps) ≡ held_from n ps
+without-below : (n id : ℕ) (ps : List (Option Stored)) → id < n → without id (held_from n ps) ≡ held_from n ps
 without-below n id [] l = refl
 without-below n id (None ∷ ps) l = without-below (suc n) id ps (omega arith)
 without-below n id (Some c ∷ ps) l = rw (ne_above n id l) (ap (λ (z : List Held). seen n c ∷ z) (without-below (suc n) id ps (omega arith)))
 
 -- a place that is emptied
-pub held_from-set : (n j id : ℕ) (ps : List (Option Clause)) → id ≡ n + j → j < length ps → held_from n (set ps j None) ≡ without id (held_from n ps)
+pub held_from-set : (n j id : ℕ) (ps : List (Option Stored)) → id ≡ n + j → j < length ps → held_from n (set ps j None) ≡ without id (held_from n ps)
 held_from-set n j id [] i l = absurd (omega arith)
 held_from-set n zero id (None ∷ ps) i l = sym (without-below (suc n) id ps (omega arith))
 held_from-set n zero id (Some c ∷ ps) i l = rw (eq-eqb n id (omega arith)) (sym (without-below (suc n) id ps (omega arith)))
@@ -65,7 +51,7 @@ held_from-set n (suc j) id (None ∷ ps) i l = held_from-set (suc n) j id ps (om
 held_from-set n (suc j) id (Some c ∷ ps) i l = rw (ne_below n id (omega arith)) (ap (λ (z : List Held). seen n c ∷ z) (held_from-set (suc n) j id ps (omega arith) (omega arith)))
 
 -- one place more from the front
-held_from-take : (n j id : ℕ) (ps : List (Option Clause)) → id ≡ n + j → held_from n (take (suc j) ps) ≡ held_from n (take j ps) ++ option_to_list (clause_at (held_from n ps) id)
+held_from-take : (n j id : ℕ) (ps : List (Option Stored)) → id ≡ n + j → held_from n (take (suc j) ps) ≡ held_from n (take j ps) ++ option_to_list (clause_at (held_from n ps) id)
 held_from-take n zero id [] i = refl
 held_from-take n (suc j) id [] i = refl
 held_from-take n zero id (None ∷ ps) i = rw (clause_at-below (suc n) id ps (omega arith)) refl
@@ -74,7 +60,7 @@ held_from-take n (suc j) id (None ∷ ps) i = held_from-take (suc n) j id ps (om
 held_from-take n (suc j) id (Some c ∷ ps) i = rw (ne_below n id (omega arith)) (ap (λ (z : List Held). seen n c ∷ z) (held_from-take (suc n) j id ps (omega arith)))
 
 -- what stands before the clause of a live id stands at the places before it
-before-place : (n j id : ℕ) (ps : List (Option Clause)) → id ≡ n + j → is_live (held_from n ps) id ≡ true → before (held_from n ps) (Some (record { 0 = id })) ≡ held_from n (take j ps)
+before-place : (n j id : ℕ) (ps : List (Option Stored)) → id ≡ n + j → is_live (held_from n ps) id ≡ true → before (held_from n ps) (Some (record { 0 = id })) ≡ held_from n (take j ps)
 before-place n j id [] i e = absurd (false≢true e)
 before-place n zero id (None ∷ ps) i e = absurd (let k : clause_at (held_from (suc n) ps) id ≡ None = clause_at-below (suc n) id ps (omega arith) in false≢true (sym (ap is_some k) ∙ e))
 before-place n zero id (Some c ∷ ps) i e = let k : id ≡ n = omega arith in rw (k, eq-eqb n n refl) refl
@@ -85,47 +71,41 @@ before-place n (suc j) id (Some c ∷ ps) i e =
     rw k (ap (λ (z : List Held). seen n c ∷ z) (before-place (suc n) j id ps (omega arith) live))
 
 -- later places have greater ids
-ids_above : (n m : ℕ) (ps : List (Option Clause)) → n < m → list_all (λ h. ltb n h.id) (held_from m ps) ≡ true
+ids_above : (n m : ℕ) (ps : List (Option Stored)) → n < m → list_all (λ h. ltb n h.id) (held_from m ps) ≡ true
 ids_above n m [] l = refl
 ids_above n m (None ∷ ps) l = ids_above n (suc m) ps (omega arith)
 ids_above n m (Some c ∷ ps) l = and_from _ _ (lt-ltb n m l) (ids_above n (suc m) ps (omega arith))
 
 -- ids rise from place to place
-pub rising-places : (n : ℕ) (ps : List (Option Clause)) → rising (held_from n ps) ≡ true
+pub rising-places : (n : ℕ) (ps : List (Option Stored)) → rising (held_from n ps) ≡ true
 rising-places n [] = refl
 rising-places n (None ∷ ps) = rising-places (suc n) ps
 rising-places n (Some c ∷ ps) = and_from _ _ (ids_above n (suc n) ps (omega arith)) (rising-places (suc n) ps)
 
 -- ids are below the number of places
-pub ids_below : (n m : ℕ) (ps : List (Option Clause)) → n + length ps ≤ m → list_all (λ h. ltb h.id m) (held_from n ps) ≡ true
+pub ids_below : (n m : ℕ) (ps : List (Option Stored)) → n + length ps ≤ m → list_all (λ h. ltb h.id m) (held_from n ps) ≡ true
 ids_below n m [] l = refl
 ids_below n m (None ∷ ps) l = ids_below (suc n) m ps (omega arith)
 ids_below n m (Some c ∷ ps) l = and_from _ _ (lt-ltb n m (omega arith)) (ids_below (suc n) m ps (omega arith))
 
--- leaving the empty places out changes ids alone
-pub contents-filter : (n m : ℕ) (ps : List (Option Clause)) → contents (held_from n (filter is_some ps)) ≡ contents (held_from m ps)
-contents-filter n m [] = refl
-contents-filter n m (None ∷ ps) = contents-filter n (suc m) ps
-contents-filter n m (Some c ∷ ps) = ap (λ z. (c.learned, c.lits) ∷ z) (contents-filter (suc n) (suc m) ps)
-
 -- the clause of an id, where the first place is 0
-pub clause_at-first : (id : ℕ) (ps : List (Option Clause)) (p : Option Clause) → p ≡ get_or ps id p → id < length ps → clause_at (held_from 0 ps) id ≡ option_map (seen id) p
+pub clause_at-first : (id : ℕ) (ps : List (Option Stored)) (p : Option Stored) → p ≡ get_or ps id p → id < length ps → clause_at (held_from 0 ps) id ≡ option_map (seen id) p
 clause_at-first id ps p e l = clause_at-place 0 id id ps p (omega arith) e l
 
 -- an id is live where its place holds a clause
-pub is_live-first : (id : ℕ) (ps : List (Option Clause)) (p : Option Clause) → p ≡ get_or ps id p → id < length ps → is_live (held_from 0 ps) id ≡ is_some p
+pub is_live-first : (id : ℕ) (ps : List (Option Stored)) (p : Option Stored) → p ≡ get_or ps id p → id < length ps → is_live (held_from 0 ps) id ≡ is_some p
 is_live-first id ps p e l = ap is_some (clause_at-first id ps p e l) ∙ go p
   where
-    go : (p : Option Clause) → is_some (option_map (seen id) p) ≡ is_some p
+    go : (p : Option Stored) → is_some (option_map (seen id) p) ≡ is_some p
     go None = refl
     go (Some c) = refl
 
 -- and there is no such place where none is live
-pub is_live-past : (id : ℕ) (ps : List (Option Clause)) → length ps ≤ id → is_live (held_from 0 ps) id ≡ false
+pub is_live-past : (id : ℕ) (ps : List (Option Stored)) → length ps ≤ id → is_live (held_from 0 ps) id ≡ false
 is_live-past id ps l = ap is_some (clause_at-past 0 id ps (omega arith))
 
 -- a live id is a place
-pub live_within : (id : ℕ) (ps : List (Option Clause)) → is_live (held_from 0 ps) id ≡ true → id < length ps
+pub live_within : (id : ℕ) (ps : List (Option Stored)) → is_live (held_from 0 ps) id ≡ true → id < length ps
 live_within id ps e = go (ltb id (length ps)) refl
   where
     go : (b : Bool) → ltb id (length ps) ≡ b → id < length ps
@@ -133,11 +113,11 @@ live_within id ps e = go (ltb id (length ps)) refl
     go false f = absurd (let l : length ps ≤ id = ltb-false id (length ps) f in false≢true (sym (is_live-past id ps l) ∙ e))
 
 -- what stands before a live clause
-pub before-live : (id : ℕ) (ps : List (Option Clause)) → is_live (held_from 0 ps) id ≡ true → before (held_from 0 ps) (Some (record { 0 = id })) ≡ held_from 0 (take id ps)
+pub before-live : (id : ℕ) (ps : List (Option Stored)) → is_live (held_from 0 ps) id ≡ true → before (held_from 0 ps) (Some (record { 0 = id })) ≡ held_from 0 (take id ps)
 before-live id ps e = before-place 0 id id ps (omega arith) e
 
 -- the walk passes an empty place
-pub walk_past : (id : ℕ) (ps : List (Option Clause)) → is_live (held_from 0 ps) id ≡ false → held_from 0 (take (id + 1) ps) ≡ held_from 0 (take id ps)
+pub walk_past : (id : ℕ) (ps : List (Option Stored)) → is_live (held_from 0 ps) id ≡ false → held_from 0 (take (id + 1) ps) ≡ held_from 0 (take id ps)
 walk_past id ps e =
     let k : id + 1 ≡ suc id = omega arith in
     rw k (held_from-take 0 id id ps (omega arith) ∙ go (clause_at (held_from 0 ps) id) e)
@@ -147,82 +127,28 @@ walk_past id ps e =
     go (Some h) f = absurd (false≢true (sym f))
 
 -- the walk goes on at the place after a clause
-pub walk_on : (id : ℕ) (ps : List (Option Clause)) → is_live (held_from 0 ps) id ≡ true
+pub walk_on : (id : ℕ) (ps : List (Option Stored)) → is_live (held_from 0 ps) id ≡ true
     → held_from 0 (take (id + 1) ps) ≡ before (held_from 0 ps) (Some (record { 0 = id })) ++ option_to_list (clause_at (held_from 0 ps) id)
 walk_on id ps e =
     let k : id + 1 ≡ suc id = omega arith in
     rw (k, before-live id ps e) (held_from-take 0 id id ps (omega arith))
 
--- the store of places
-abbrev pub stored : List (Option Clause) → Store
-stored ps = record { held = held_from 0 ps; given = length ps }
-
--- the ids of a live clause are places
-pub stored_within : (ps : List (Option Clause)) (s : Store) (id : ℕ) → stored ps ≡ s → is_live s.held id ≡ true → id < length ps
-stored_within ps s id e live = live_within id ps (ap (λ (z : Store). is_live z.held id) e ∙ live)
-
--- a live id has a clause at its place
-pub stored_full : (ps : List (Option Clause)) (s : Store) (id : ℕ) (p : Option Clause) → stored ps ≡ s → is_live s.held id ≡ true → p ≡ get_or ps id p → is_some p ≡ true
-stored_full ps s id p e live r = sym (is_live-first id ps p r (stored_within ps s id e live)) ∙ (ap (λ (z : Store). is_live z.held id) e ∙ live)
-
--- and it is the clause of the id
-pub stored_clause : (ps : List (Option Clause)) (s : Store) (id : ℕ) (p : Option Clause) → stored ps ≡ s → is_live s.held id ≡ true → p ≡ get_or ps id p → clause_at s.held id ≡ option_map (seen id) p
-stored_clause ps s id p e live r = sym (ap (λ (z : Store). clause_at z.held id) e) ∙ clause_at-first id ps p r (stored_within ps s id e live)
-
--- what the places of a store keep
-pub stored_kept : (ps : List (Option Clause)) (s : Store) → stored ps ≡ s → list_all (λ h. is_distinct h.lits) (held_from 0 ps) ≡ true → IsKept s
-stored_kept ps s e d = subst (λ (z : Store). IsKept z) e (record { below = ids_below 0 (length ps) ps (omega arith); rises = rising-places 0 ps; distinct = d })
-
--- one clause more is stored as the last
-pub held_from-add : (ps : List (Option Clause)) (id : ℕ) (c : Clause) → id ≡ length ps → held_from 0 (ps ++ Some c ∷ []) ≡ held_from 0 ps ++ seen id c ∷ []
-held_from-add ps id c e = let k : 0 + length ps ≡ id = omega arith in held_from-push 0 ps c ∙ ap (λ (n : ℕ). held_from 0 ps ++ seen n c ∷ []) k
-
--- whether literals are distinct shows in the contents
-pub all_distinct-contents : (xs ys : List Held) → contents xs ≡ contents ys → list_all (λ h. is_distinct h.lits) ys ≡ true → list_all (λ h. is_distinct h.lits) xs ≡ true
-all_distinct-contents xs ys e h =
-    sym (list_all-map (λ (c : Bool × List InLit). is_distinct c.1) (λ (k : Held). (k.learned, k.lits)) xs)
-    ∙ (ap (list_all (λ (c : Bool × List InLit). is_distinct c.1)) e
-    ∙ (list_all-map (λ (c : Bool × List InLit). is_distinct c.1) (λ (k : Held). (k.learned, k.lits)) ys ∙ h))
-
--- one place emptied makes the store without that clause
-pub stored-set : (ps : List (Option Clause)) (s : Store) (id : ℕ) → stored ps ≡ s → id < length ps → stored (set ps id None) ≡ record s { held = without id s.held }
-stored-set ps s id e l =
-    ap₂ {C = Store} (λ (h : List Held) (g : ℕ). record { held = h; given = g }) (held_from-set 0 id id ps (omega arith) l) (length-set ps id None)
-    ∙ ap (λ (z : Store). record z { held = without id z.held }) e
-
--- and the walk goes on after a live clause of a store
-pub stored_walk_on : (ps : List (Option Clause)) (s : Store) (id : ClauseId) → stored ps ≡ s → is_live s.held id.0 ≡ true
-    → held_from 0 (take (id.0 + 1) ps) ≡ before s.held (Some id) ++ option_to_list (clause_at s.held id.0)
-stored_walk_on ps s id e live =
-    walk_on id.0 ps (ap (λ (z : Store). is_live z.held id.0) e ∙ live)
-    ∙ ap (λ (z : Store). before z.held (Some id) ++ option_to_list (clause_at z.held id.0)) e
-
 -- no clause has an id up to one below the first place
-upto-below : (n id : ℕ) (ps : List (Option Clause)) → id < n → filter (λ h. nat_le h.id id) (held_from n ps) ≡ []
+upto-below : (n id : ℕ) (ps : List (Option Stored)) → id < n → filter (λ h. nat_le h.id id) (held_from n ps) ≡ []
 upto-below n id [] l = refl
 upto-below n id (None ∷ ps) l = upto-below (suc n) id ps (omega arith)
 upto-below n id (Some c ∷ ps) l = rw (lt-leb n id l) (upto-below (suc n) id ps (omega arith))
 
 -- the clauses up to an id stand at the places up to it
-upto-place : (n j id : ℕ) (ps : List (Option Clause)) → id ≡ n + j → filter (λ h. nat_le h.id id) (held_from n ps) ≡ held_from n (take (suc j) ps)
+pub upto-place : (n j id : ℕ) (ps : List (Option Stored)) → id ≡ n + j → filter (λ h. nat_le h.id id) (held_from n ps) ≡ held_from n (take (suc j) ps)
 upto-place n j id [] i = refl
 upto-place n zero id (None ∷ ps) i = upto-below (suc n) id ps (omega arith)
 upto-place n zero id (Some c ∷ ps) i = rw (le-leb n id (omega arith)) (ap (λ (z : List Held). seen n c ∷ z) (upto-below (suc n) id ps (omega arith)))
 upto-place n (suc j) id (None ∷ ps) i = upto-place (suc n) j id ps (omega arith)
 upto-place n (suc j) id (Some c ∷ ps) i = rw (le-leb n id (omega arith)) (ap (λ (z : List Held). seen n c ∷ z) (upto-place (suc n) j id ps (omega arith)))
 
--- the clauses up to an id of a store are those at the places before the next one
-pub stored_upto : (ps : List (Option Clause)) (s : Store) (id : ℕ) → stored ps ≡ s → held_from 0 (take (id + 1) ps) ≡ filter (λ h. nat_le h.id id) s.held
-stored_upto ps s id e =
-    let k : id + 1 ≡ suc id = omega arith in
-    rw k (sym (upto-place 0 id id ps (omega arith)) ∙ ap (λ (z : Store). filter (λ h. nat_le h.id id) z.held) e)
-
 -- no id is past the last place
-upto-all : (n id : ℕ) (ps : List (Option Clause)) → n + length ps ≤ suc id → filter (λ h. nat_le h.id id) (held_from n ps) ≡ held_from n ps
+pub upto-all : (n id : ℕ) (ps : List (Option Stored)) → n + length ps ≤ suc id → filter (λ h. nat_le h.id id) (held_from n ps) ≡ held_from n ps
 upto-all n id [] l = refl
 upto-all n id (None ∷ ps) l = upto-all (suc n) id ps (omega arith)
 upto-all n id (Some c ∷ ps) l = rw (le-leb n id (omega arith)) (ap (λ (z : List Held). seen n c ∷ z) (upto-all (suc n) id ps (omega arith)))
-
-pub stored_all : (ps : List (Option Clause)) (s : Store) (id : ℕ) → stored ps ≡ s → length ps ≤ id → s.held ≡ filter (λ h. nat_le h.id id) s.held
-stored_all ps s id e l =
-    sym (ap (λ (z : Store). z.held) e) ∙ (sym (upto-all 0 id ps (omega arith)) ∙ ap (λ (z : Store). filter (λ h. nat_le h.id id) z.held) e)

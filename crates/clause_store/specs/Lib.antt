@@ -1,4 +1,4 @@
 pub mod Store
-pub mod Places
+pub mod Words
 pub mod Inside
 pub mod Laws

@@ -1,43 +1,48 @@
-use Rattle.std.proofs.Common.{◌≡◌, ◌∙◌, true, ap, refl, List, [], ◌∷◌, ◌++◌, Option, Some, length}
+use Rattle.std.proofs.Common.{◌≡◌, ◌∙◌, [], ◌∷◌, ◌++◌, true, ap, refl, sym, subst, List, length}
 use Rattle.std.specs.List.{list_all}
-use Rattle.sat_lits.specs.Laws.{all_push}
 use Rattle.sat_lits.specs.InLits.{is_distinct}
-use Rattle.clause_store.specs.declared.store.Clause.{Clause}
-use Rattle.clause_store.specs.Store.{Held}
-use Rattle.clause_store.specs.Places.{held_from}
-use Rattle.clause_store.proofs.Places.{held_from-add, stored_kept}
+use Rattle.sat_lits.specs.declared.literal.InLit.{InLit}
+use Rattle.clause_store.specs.Store.{held_as}
+use Rattle.clause_store.specs.Words.{header_of, held_in, can_stand, AreBlocks}
+use Rattle.clause_store.proofs.Blocks.{blocks-add, held_in-add, add_distinct, stored_kept}
 use Rattle.clause_store.proofs.store.ClauseStore.add.Goals as goal
+use Rattle.clause_store.proofs.store.ClauseStore.add.Goals.{After-append}
 
-distinct_more : (ps news : List (Option Clause)) (clause : Clause) → news ≡ ps ++ Some clause ∷ [] → list_all (λ h. is_distinct h.lits) (held_from 0 ps) ≡ true → is_distinct clause.lits ≡ true
-    → list_all (λ h. is_distinct h.lits) (held_from 0 news) ≡ true
-distinct_more ps news clause e d l =
-    rw (e, held_from-add ps (length ps) clause refl)
-    (all_push (λ (h : Held). is_distinct h.lits) (held_from 0 ps) _ d l)
+-- the words after the clause was added
+longer : (c : After-append) → c.append.new.words.items ≡ c.self.inside.words.items ++ (header_of (length c.args.lits.now) c.args.learned ∷ c.args.lits.now)
+longer c = c.append.ensures ∙ ap (λ (ws : List InLit). ws ++ (header_of (length c.args.lits.now) c.args.learned ∷ c.args.lits.now)) c.in_ok-reserve.ensures.items
+
+stands : (c : After-append) → can_stand c.args.lits.now ≡ true
+stands c = sym c.can_stand.ensures ∙ c.if-not-can_stand.false
+
+all_distinct : (c : After-append) → list_all (λ h. is_distinct h.lits) (held_in c.append.new.words.items) ≡ true
+all_distinct c = rw (longer c) (add_distinct c.self.inside.words.items c.args.lits.now c.args.learned c.self.invariant.blocks (stands c) c.self.invariant.distinct c.requires)
 
 pub invariant_of-self-2 : goal.invariant_of-self-2
-invariant_of-self-2 c = distinct_more c.self.inside.places.items _ _ c.in_ok-push.ensures.items c.self.invariant (ap is_distinct c.in_ok-lits.ensures ∙ c.requires)
+invariant_of-self-2 c = record {
+  blocks = subst (λ (ws : List InLit). AreBlocks ws 0) (sym (longer c)) (blocks-add c.self.inside.words.items c.args.lits.now c.args.learned c.self.invariant.blocks (stands c));
+  distinct = all_distinct c;
+}
 
 pub returns-clause-held : goal.returns-clause-held
 returns-clause-held c =
-    rw (c.in_ok-push.ensures.items, ← c.self.view_is, ← c.in_ok-lits.ensures)
-    (held_from-add c.self.inside.places.items c.len.result _ (c.len.ensures ∙ c.self.inside.places.ok.0))
+    rw (longer c, held_in-add c.self.inside.words.items c.args.lits.now c.args.learned c.self.invariant.blocks (stands c), ← c.self.view_is)
+    (ap (λ n. held_in c.self.inside.words.items ++ held_as n c.args.learned c.args.lits.now ∷ []) (sym (c.len-place.ensures ∙ c.self.inside.words.ok.0)))
 
-pub returns-in_err-lits-clause-kept : goal.returns-in_err-lits-clause-kept
-returns-in_err-lits-clause-kept c = stored_kept c.self.inside.places.items c.args.self.now c.self.view_is c.self.invariant
+pub returns-then-not-can_stand-clause-kept : goal.returns-then-not-can_stand-clause-kept
+returns-then-not-can_stand-clause-kept c = stored_kept c.self.inside.words.items c.args.self.now c.self.view_is c.self.invariant.distinct
 
-pub returns-in_err-lits-clause-stays_kept : goal.returns-in_err-lits-clause-stays_kept
-returns-in_err-lits-clause-stays_kept c = stored_kept c.self.inside.places.items c.args.self.now c.self.view_is c.self.invariant
+pub returns-then-not-can_stand-clause-stays_kept : goal.returns-then-not-can_stand-clause-stays_kept
+returns-then-not-can_stand-clause-stays_kept c = stored_kept c.self.inside.words.items c.args.self.now c.self.view_is c.self.invariant.distinct
 
-pub returns-in_err-push-clause-kept : goal.returns-in_err-push-clause-kept
-returns-in_err-push-clause-kept c = stored_kept c.self.inside.places.items c.args.self.now c.self.view_is c.self.invariant
+pub returns-in_err-reserve-clause-kept : goal.returns-in_err-reserve-clause-kept
+returns-in_err-reserve-clause-kept c = stored_kept c.self.inside.words.items c.args.self.now c.self.view_is c.self.invariant.distinct
 
-pub returns-in_err-push-clause-stays_kept : goal.returns-in_err-push-clause-stays_kept
-returns-in_err-push-clause-stays_kept c = stored_kept c.push.new.self.items _ refl (rw c.in_err-push.ensures.items c.self.invariant)
+pub returns-in_err-reserve-clause-stays_kept : goal.returns-in_err-reserve-clause-stays_kept
+returns-in_err-reserve-clause-stays_kept c = stored_kept c.reserve.new.self.items _ refl (rw c.in_err-reserve.ensures.items c.self.invariant.distinct)
 
 pub returns-clause-kept : goal.returns-clause-kept
-returns-clause-kept c = stored_kept c.self.inside.places.items c.args.self.now c.self.view_is c.self.invariant
+returns-clause-kept c = stored_kept c.self.inside.words.items c.args.self.now c.self.view_is c.self.invariant.distinct
 
 pub returns-clause-stays_kept : goal.returns-clause-stays_kept
-returns-clause-stays_kept c =
-    stored_kept c.push.new.self.items _ refl
-    (distinct_more c.self.inside.places.items _ _ c.in_ok-push.ensures.items c.self.invariant (ap is_distinct c.in_ok-lits.ensures ∙ c.requires))
+returns-clause-stays_kept c = stored_kept c.append.new.words.items _ refl (all_distinct c)

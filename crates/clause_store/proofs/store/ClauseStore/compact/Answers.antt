@@ -1,27 +1,51 @@
-use Rattle.std.proofs.Common.{◌≡◌, ◌∙◌, ap, filter, rules}
-use Rattle.std.specs.Option.{is_some}
-use Rattle.std.proofs.lemmas.List.Elements.{filter_from_retain}
-use Rattle.clause_store.specs.Store.{Store, contents}
-use Rattle.clause_store.specs.Places.{held_from}
+use Rattle.std.proofs.Common.{◌≡◌, ◌∙◌, ◌+◌, true, false, sym, ap, subst, sum_by, length, refl, arith, List, zero-add}
+use Rattle.std.proofs.lemmas.List.{take-take, take-append-le}
+use Rattle.std.specs.List.{list_all}
+use Rattle.sat_lits.specs.InLits.{is_distinct}
+use Rattle.sat_lits.specs.declared.literal.InLit.{InLit}
+use Rattle.clause_store.specs.Store.{Held, Store, contents}
+use Rattle.clause_store.specs.Words.{closed_up, held_in, AreBlocks}
 use Rattle.clause_store.specs.Laws.{hard_of-contents, learned_of-contents}
-use Rattle.clause_store.proofs.Places.{contents-filter, all_distinct-contents}
+use Rattle.clause_store.proofs.Blocks.{stored_kept}
+use Rattle.clause_store.proofs.Closing.{blocks_closed, contents_closed, length-closed, all_distinct-contents}
 use Rattle.clause_store.proofs.store.ClauseStore.compact.Goals as goal
-use Rattle.clause_store.proofs.store.ClauseStore.compact.Goals.{After-retain}
+use Rattle.clause_store.proofs.store.ClauseStore.compact.Goals.{After-truncate}
 
-retained : (c : After-retain) → c.retain.new.self.items ≡ filter is_some c.self.inside.places.items
-retained c = filter_from_retain _ is_some (λ p x b q r. search rules) _ _ _ c.retain.ensures.filtered
+-- the words that are left
+left : (c : After-truncate) → c.truncate.new.self.items ≡ closed_up false c.self.inside.words.items
+left c =
+    let n : length c.deref_mut.result.now ≡ length c.self.inside.words.items = ap length c.deref_mut.ensures.value in
+    c.truncate.ensures.items
+    ∙ (take-take _ _ _ (omega (arith, c.close_up-end.ensures.within, n, c.self.inside.words.ok.0))
+    ∙ (take-append-le _ _ _ (omega (arith, c.close_up-end.ensures.within, c.close_up-end.auto.words))
+    ∙ (c.close_up-end.ensures.words ∙ ap (closed_up false) c.deref_mut.ensures.value)))
 
-same_contents : (c : After-retain) → contents (held_from 0 c.retain.new.self.items) ≡ contents (held_from 0 c.self.inside.places.items)
-same_contents c = ap (λ ps. contents (held_from 0 ps)) (retained c) ∙ contents-filter 0 0 c.self.inside.places.items
+same_contents : (c : After-truncate) → contents (held_in c.truncate.new.self.items) ≡ contents (held_in c.self.inside.words.items)
+same_contents c = ap (λ ws. contents (held_in ws)) (left c) ∙ contents_closed 0 0 c.self.inside.words.items 0 false c.self.invariant.blocks
+
+all_distinct : (c : After-truncate) → list_all (λ h. is_distinct h.lits) (held_in c.truncate.new.self.items) ≡ true
+all_distinct c = all_distinct-contents (held_in c.truncate.new.self.items) (held_in c.self.inside.words.items) (same_contents c) c.self.invariant.distinct
 
 pub invariant_of-self : goal.invariant_of-self
-invariant_of-self c = all_distinct-contents (held_from 0 c.retain.new.self.items) (held_from 0 c.self.inside.places.items) (same_contents c) c.self.invariant
+invariant_of-self c = record {
+  blocks = subst (λ (ws : List InLit). AreBlocks ws 0) (sym (left c)) (blocks_closed c.self.inside.words.items 0 false c.self.invariant.blocks);
+  distinct = all_distinct c;
+}
 
 pub returns-clause-clauses : goal.returns-clause-clauses
 returns-clause-clauses c = same_contents c ∙ ap (λ (s : Store). contents s.held) c.self.view_is
 
 pub returns-clause-hard : goal.returns-clause-hard
-returns-clause-hard c = hard_of-contents (held_from 0 c.retain.new.self.items) c.args.self.now.held (same_contents c ∙ ap (λ (s : Store). contents s.held) c.self.view_is)
+returns-clause-hard c = hard_of-contents (held_in c.truncate.new.self.items) c.args.self.now.held (same_contents c ∙ ap (λ (s : Store). contents s.held) c.self.view_is)
 
 pub returns-clause-learned : goal.returns-clause-learned
-returns-clause-learned c = learned_of-contents (held_from 0 c.retain.new.self.items) c.args.self.now.held (same_contents c ∙ ap (λ (s : Store). contents s.held) c.self.view_is)
+returns-clause-learned c = learned_of-contents (held_in c.truncate.new.self.items) c.args.self.now.held (same_contents c ∙ ap (λ (s : Store). contents s.held) c.self.view_is)
+
+pub returns-clause-given : goal.returns-clause-given
+returns-clause-given c =
+    ap length (left c)
+    ∙ (length-closed 0 c.self.inside.words.items 0 false c.self.invariant.blocks
+    ∙ (zero-add _ ∙ ap (λ (s : Store). sum_by (λ (h : Held). length h.lits + 1) s.held) c.self.view_is))
+
+pub returns-clause-kept : goal.returns-clause-kept
+returns-clause-kept c = stored_kept c.truncate.new.self.items _ refl (all_distinct c)
