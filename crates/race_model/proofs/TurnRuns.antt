@@ -7,8 +7,6 @@ use Rattle.std.proofs.lemmas.List.Elements.{All-push, filter_map-append}
 use Rattle.std.proofs.lemmas.List.Sums.{fold-append}
 use Rattle.std.proofs.lemmas.Option.{slice_get-map, slice_get-get_or, slice_get_within, none-some, same_Some}
 use Rattle.std.proofs.lemmas.Simd.{map-map}
-use Rattle.std.proofs.Math.ListN.{get_or-append}
-use Rattle.std.proofs.Math.Seq.{get_or-append_seam}
 use Rattle.sat_lits.specs.Meaning.{Problem, Follows}
 use Rattle.sat_lits.specs.Logs.{IsShareable, with_clauses}
 use Rattle.sat_lits.specs.declared.literal.Lit.{Lit}
@@ -21,6 +19,7 @@ use Rattle.race_model.specs.declared.event.Event.TheVariants.{Give, Take}
 use Rattle.race_model.specs.States.{State, nothing, taken_by, entries_at, entries_of, known_to}
 use Rattle.race_model.specs.Events.{is_known, given_entry, after_event, after_events, IsRun}
 use Rattle.race_model.specs.Turns.{solver_and_clause, SameButAfter, StandsFor, IsTurnRun, TurnsAreRuns}
+use Rattle.race_model.specs.TurnLaws.{given_is_new}
 use Rattle.race_model.proofs.Known.{unknown_lacks, known_alike}
 
 -- the entry at a place of a log stands at that place of one that agrees with it
@@ -203,14 +202,8 @@ gives (clause ∷ clauses) s solver has log found stands shareable follow once =
     along : (log ++ entry ∷ []) ++ map (given_entry found solver) clauses ≡ log ++ map (given_entry found solver) (clause ∷ clauses)
     along = append_assoc log (entry ∷ []) (map (given_entry found solver) clauses)
 
-    fresh : All (λ (e : Shared). e.clause ≡ clause → ⊥) log
-    fresh k d l same =
-        once k (length log) d l (omega (arith, length-append log (map (given_entry found solver) (clause ∷ clauses))))
-        (ap (λ (e : Shared). e.clause) (get_or-append log (map (given_entry found solver) (clause ∷ clauses)) d k l)
-        ∙ (same ∙ ap (λ (e : Shared). e.clause) (sym (get_or-append_seam log (given_entry found solver clause) (map (given_entry found solver) clauses) d))))
-
     first : IsTurnRun s solver log has (log ++ entry ∷ []) (Give solver clause ∷ [])
-    first = give_one s solver has log stands entry refl (shareable 0 clause (omega arith)) (follow 0 clause (omega arith)) fresh
+    first = give_one s solver has log stands entry refl (shareable 0 clause (omega arith)) (follow 0 clause (omega arith)) (given_is_new log found solver clause clauses once)
 
 pub turns_run : TurnsAreRuns
 turns_run s solver had log has next turn stands =

@@ -1,7 +1,7 @@
 -- What a solver does in one turn with the log, and the events that it is of the machine.
 use Rattle.std.specs.Prelude.{◌≡◌, ◌≢◌, ℕ, ◌<◌, List, ◌++◌, All, AllPairs, Contains, length, map}
 use Rattle.sat_lits.specs.Meaning.{Problem, Follows}
-use Rattle.sat_lits.specs.Logs.{IsShareable, with_clauses}
+use Rattle.sat_lits.specs.Logs.{IsShareable, IsLegalLog, with_clauses}
 use Rattle.sat_lits.specs.declared.literal.Lit.{Lit}
 use Rattle.sat_lits.specs.declared.shared.Shared.{Shared}
 use Rattle.race_model.specs.declared.event.Event.{Event}
@@ -60,3 +60,10 @@ TurnsAreRuns =
     (turn : IsTurn s.formula solver had log has next) → StandsFor s solver had log
     → (places : List ℕ) × (entries_at log places ≡ turn.more)
     × IsTurnRun s solver log has next (turn_events solver places turn.given)
+
+-- a legal log is legal after a turn of a solver that had entries of it alone
+abbrev pub TurnsKeepLogsLegal : Type 0
+TurnsKeepLogsLegal =
+    (f : Problem) (solver : ℕ) (had log has next : List Shared)
+    → IsTurn f solver had log has next → All (λ e. Contains log e) had → IsLegalLog f log
+    → IsLegalLog f next
