@@ -3,7 +3,7 @@ use Rattle.std.proofs.Common.{◌≡◌, ℕ, suc, ◌+◌, ◌<◌, ◌≤◌, 
 use Rattle.std.proofs.lemmas.List.{take_all, take-append-drop, take_more}
 use Rattle.std.proofs.Math.Seq.{drop-cons}
 use Rattle.sat_lits.specs.Limits.{LimitNumbers}
-use Rattle.dimacs_text.specs.Grammar.{Ended, Refused, Open, Reading, read, reading_of, front_reading, decided_of}
+use Rattle.dimacs_text.specs.Grammar.{Ended, Refused, Open, Reading, read, reading_of, front_reading}
 use Rattle.dimacs_text.specs.Commands.{AreWithin}
 use Rattle.dimacs_text.specs.Steps.{Step, Goes, Fails, GoesTo, FailsAs, Does, byte_step, end_step}
 use Rattle.dimacs_text.specs.Resuming.{Resumes, Counts, rest_at, word_after}

@@ -7,4 +7,6 @@ pub mod Endings
 pub mod Bounds
 pub mod Calls
 pub mod Printed
+pub mod Lines
+pub mod Tellings
 pub mod Plainness

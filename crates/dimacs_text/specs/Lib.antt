@@ -6,4 +6,5 @@ pub mod Commands
 pub mod Resuming
 pub mod Reads
 pub mod Texts
+pub mod Written
 pub mod Plain

@@ -1,7 +1,7 @@
 -- What callers know of a reader and the text that it was fed.
 use Rattle.std.specs.Prelude.{ℕ, ◌≡◌, ◌≤◌, List, ◌++◌, length, take}
 use Rattle.sat_lits.specs.Limits.{LimitNumbers}
-use Rattle.dimacs_text.specs.Grammar.{End, Ended, Refused, Open, Reading, reading_of, front_reading, decided_of}
+use Rattle.dimacs_text.specs.Grammar.{End, Ended, Refused, Open, reading_of, front_reading, decided_of}
 use Rattle.dimacs_text.specs.Commands.{AreWithin}
 use Rattle.dimacs_text.specs.Resuming.{Resumes, Counts}
 use Rattle.dimacs_text.specs.declared.reader.Reader.{Reader}

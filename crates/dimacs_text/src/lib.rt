@@ -2,14 +2,13 @@
 #![tactic(auto)]
 
 mod command;
-mod plain;
+pub mod laws;
 mod print;
 mod reader;
 mod refusal;
 mod token;
 
 pub use command::{Command, Commands};
-pub use plain::plain_texts;
 pub use print::{print_limit, print_refusal, print_verdict};
 pub use reader::Reader;
 pub use refusal::{ReadError, Refusal};
