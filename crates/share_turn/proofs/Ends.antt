@@ -21,12 +21,12 @@ use Rattle.share_turn.proofs.TurnSteps.{St, K, first_is, has_posted_one}
 use Rattle.share_turn.proofs.OutcomeSteps.{end_stage}
 
 -- where no pass has a claim and the word is not 0, it is 2
-settled_end : (t : Stage) → claim_at t ≡ Quiet → 0 < rank t → stage_word t ≡ 2
-settled_end quiet e h = absurd (omega arith)
-settled_end claimed e h = absurd (cc)
-settled_end raised e h = absurd (cc)
-settled_end (put o) e h = absurd (cc)
-settled_end (posted o) e h = refl
+all_ended : (t : Stage) → claim_at t ≡ Quiet → 0 < rank t → stage_word t ≡ 2
+all_ended quiet e h = absurd (omega arith)
+all_ended claimed e h = absurd (cc)
+all_ended raised e h = absurd (cc)
+all_ended (put o) e h = absurd (cc)
+all_ended (posted o) e h = refl
 
 -- what is asked where nothing is there holds where something is
 if_there : {X : Type 0} (o : Option X) (P : Type 0) → IsSome o → IfNone o P
@@ -137,7 +137,7 @@ module _ (q : Question) where
     ends_late even calm h n word =
         let s : St = end.0 in
         let r : K q s = end.1.0 in
-        sym (index_of ws 1 n word) ∙ ap (λ (l : List ℕ). get_or l 1 0) (sym end.2) ∙ r.stage_is ∙ settled_end r.board.stage (all_quiet s r id v end.1.1 first even calm) ((r.each id v end.1.1).late h)
+        sym (index_of ws 1 n word) ∙ ap (λ (l : List ℕ). get_or l 1 0) (sym end.2) ∙ r.stage_is ∙ all_ended r.board.stage (all_quiet s r id v end.1.1 first even calm) ((r.each id v end.1.1).late h)
 
     -- what `close` hands out of slot 0 is legal
     pub close_store : (o : Option (List Shared)) (turn : ℕ) (held : Slot) → ((log : List Shared) → turn ≡ 0 → held ≡ Some (Stored log) → o ≡ Some log) → (turn ≢ 0 → o ≡ None)

@@ -22,7 +22,7 @@ use Rattle.share_turn.specs.Views.{IsRightOutcome, at_claim, came_late, alarm_af
 use Rattle.share_turn.specs.Board.{Slot, Board, Fits, Stage, quiet, claimed, raised, put, posted, rank, stage_word, claim_at, outcome_home, RightAt}
 use Rattle.share_turn.specs.Steps.{Mine, asked, held_up, laid, shown, looked}
 use Rattle.share_turn.proofs.Fronts.{each_set, inside, live_same}
-use Rattle.share_turn.proofs.TurnSteps.{St, K, stays, first_is, put_quiet, has_posted_one, still_fits, learns}
+use Rattle.share_turn.proofs.TurnSteps.{St, K, stays, first_is, put_quiet, still_fits, learns}
 
 -- word 1 is 0 only where nobody claimed the outcome
 pub stage_free : (t : Stage) → stage_word t ≡ 0 → t ≡ quiet

@@ -22,7 +22,7 @@ use Rattle.share_store.specs.Log.{StartsWith}
 use Rattle.share_store.specs.Laws.{starts_refl, starts_trans, starts_none}
 use Rattle.share_turn.specs.Views.{IsLegalFor, longer, at_turn, opening_view, newcomer, divided, united, heard_of, won, lost, freed}
 use Rattle.share_turn.specs.Board.{Slot, Board, Fits, HasBoard, Stage, quiet, put, posted, rank, claim_at, turn_word, store_home, PhaseOf}
-use Rattle.share_turn.specs.Steps.{Mine, settled, gone, tried, lifted, emptied, reached, landed, released, heard}
+use Rattle.share_turn.specs.Steps.{Mine, phase_out, phase_back, gone, tried, lifted, emptied, reached, landed, released, heard}
 use Rattle.share_turn.specs.Laws.{none_is_legal}
 use Rattle.share_turn.proofs.Fronts.{longer_both, inside, at_end, each_set, weight, live_set, live_same, live_end}
 
@@ -319,7 +319,7 @@ module _ (q : Question) where
         subst (λ c. K (stepped s 0 n id c (at_turn (Out h) me.0) gives)) (sym hand)
             (turned s r id me.0 (Out h) b.log me.0.seen me.0.told me.0.tries (set s.words 0 n) (set s.homes 0 (some None)) at alive (inl held.0) f.seen f.told (starts_refl b.log) r.legal phase
             (ws.0, ws.1 ∙ r.turn_is ∙ ap turn_word held.1, ws.2) (set_here s.homes 0 (some None) (omega arith)) (set_else s.homes 0 1 (some None) (λ e. omega arith))),
-        (refl, ap (λ t. at_turn (settled t) me.0) (sym is)),
+        (refl, ap (λ t. at_turn (phase_out t) me.0) (sym is)),
       )
 
   -- the empty slot goes out
@@ -337,7 +337,7 @@ module _ (q : Question) where
         r.store_is ∙ ap (λ p. some (store_home b.log p)) held.1,
         turned s r id me.0 (Away h) b.log me.0.seen me.0.told me.0.tries (set s.words 0 n) (set s.homes 0 none) at alive (inl held.0) f.seen f.told (starts_refl b.log) r.legal phase
             (ws.0, ws.1 ∙ r.turn_is ∙ ap turn_word held.1, ws.2) (set_here s.homes 0 none (omega arith)) (set_else s.homes 0 1 none (λ e. omega arith)),
-        (refl, ap (λ t. at_turn (Rattle.share_turn.specs.Steps.unsettled t) me.0) (sym is)),
+        (refl, ap (λ t. at_turn (phase_back t) me.0) (sym is)),
       )
 
   -- the slot comes home with a legal store that begins with what went out

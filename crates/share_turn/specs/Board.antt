@@ -1,5 +1,5 @@
 -- The rule of the exchange as each step keeps it: the words, the slots and all views follow from one board.
--- Word 0 is 1 while some pass has the turn. Word 1 is 0, then 1 while some pass claims the outcome, then 2 once it is posted.
+-- The word of the turn says whether some pass has it. The word of the outcome is `UNCLAIMED`, then `CLAIMED` while some pass claims the outcome, then `POSTED`.
 use Rattle.std.specs.Prelude.{◌≡◌, ◌≢◌, ◌⊎◌, ℕ, ◌+◌, ◌<◌, ◌≤◌, Bool, true, false, List, [], ◌∷◌, length, slice_index, if◌then◌else◌, Option, Some, None}
 use mathlib.Core.Option.{some, none}
 use mathlib.Core.Option as maybe
@@ -16,6 +16,7 @@ use Rattle.share_turn.specs.declared.view.Phase.{Phase}
 use Rattle.share_turn.specs.declared.view.Phase.TheVariants.{Free, Won, Away, Out, Back}
 use Rattle.share_turn.specs.declared.view.Claim.{Claim}
 use Rattle.share_turn.specs.declared.view.Claim.TheVariants.{Quiet, Claimed, Lifted, Put}
+use Rattle.share_turn.specs.declared.words.TheConstants.{TURN_WORD, TURN_FREE, TURN_TAKEN, OUTCOME_WORD, UNCLAIMED, CLAIMED, POSTED, STORE_SLOT, OUTCOME_SLOT}
 use Rattle.share_turn.specs.Views.{IsLegalFor, IsRightOutcome}
 
 -- what lies in a slot
@@ -38,13 +39,13 @@ rank raised = 2
 rank (put o) = 3
 rank (posted o) = 4
 
--- word 1 at a stage
+-- the word of the outcome at a stage
 abbrev pub stage_word : Stage → ℕ
-stage_word quiet = 0
-stage_word claimed = 1
-stage_word raised = 1
-stage_word (put o) = 1
-stage_word (posted o) = 2
+stage_word quiet = UNCLAIMED
+stage_word claimed = CLAIMED
+stage_word raised = CLAIMED
+stage_word (put o) = CLAIMED
+stage_word (posted o) = POSTED
 
 -- the claim of the claiming pass
 abbrev pub claim_at : Stage → Claim
@@ -54,7 +55,7 @@ claim_at raised = Lifted
 claim_at (put o) = Put
 claim_at (posted o) = Quiet
 
--- what is at home in slot 1
+-- what is at home in the slot of the outcome
 abbrev pub outcome_home : Stage → maybe.Option Slot
 outcome_home quiet = some None
 outcome_home claimed = some None
@@ -70,15 +71,15 @@ RightAt q alarmed raised = Unit {0}
 RightAt q alarmed (put o) = IsRightOutcome q alarmed o
 RightAt q alarmed (posted o) = IsRightOutcome q alarmed o
 
--- word 0 where the turn is in this phase
+-- the word of the turn where it is in this phase
 abbrev pub turn_word : Phase → ℕ
-turn_word Free = 0
-turn_word Won = 1
-turn_word (Away h) = 1
-turn_word (Out h) = 1
-turn_word (Back h) = 1
+turn_word Free = TURN_FREE
+turn_word Won = TURN_TAKEN
+turn_word (Away h) = TURN_TAKEN
+turn_word (Out h) = TURN_TAKEN
+turn_word (Back h) = TURN_TAKEN
 
--- what is at home in slot 0
+-- what is at home in the slot of the store
 abbrev pub store_home : List Shared → Phase → maybe.Option Slot
 store_home log Free = some (Some (Stored log))
 store_home log Won = some (Some (Stored log))
@@ -131,10 +132,10 @@ live (v ∷ vs) = (if v.spent then 0 else 1) + live vs
 pub record HasBoard (q : Question) (s : State Slot View) : Type 0 where
   pub board : Board
   pub words : length s.words ≡ 2
-  pub turn_is : slice_index s.words 0 ≡ turn_word board.turn
-  pub stage_is : slice_index s.words 1 ≡ stage_word board.stage
-  pub store_is : get_elem? s.homes 0 ≡ some (store_home board.log board.turn)
-  pub outcome_is : get_elem? s.homes 1 ≡ some (outcome_home board.stage)
+  pub turn_is : slice_index s.words TURN_WORD ≡ turn_word board.turn
+  pub stage_is : slice_index s.words OUTCOME_WORD ≡ stage_word board.stage
+  pub store_is : get_elem? s.homes STORE_SLOT ≡ some (store_home board.log board.turn)
+  pub outcome_is : get_elem? s.homes OUTCOME_SLOT ≡ some (outcome_home board.stage)
   pub legal : IsLegalFor q board.log
   pub phase : PhaseOf board.log board.turn
   pub right : RightAt q board.alarmed board.stage

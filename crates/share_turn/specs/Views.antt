@@ -1,7 +1,7 @@
 -- What contracts see of a pass, and what its view is after each call.
 use Rattle.std.specs.Prelude.{◌≡◌, ℕ, ◌+◌, ◌<◌, Bool, true, false, ◌||◌, List, [], All, length, nat_lt, if◌then◌else◌, Some, None}
 use Rattle.std.specs.Option.{option_or}
-use Rattle.atomic_table.specs.Seated.{TableId}
+pub use Rattle.atomic_table.specs.Seated.{TableId}
 use Rattle.sat_lits.specs.Formulas.{Bounded}
 use Rattle.sat_lits.specs.Logs.{IsLegalLog}
 use Rattle.sat_lits.specs.Verdicts.{IsRight}

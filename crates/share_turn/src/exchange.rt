@@ -14,6 +14,10 @@ use crate::steps::{
     Release, Show, Try,
 };
 use crate::table::{Asked, TurnTable};
+use crate::words::{
+    CLAIMED, OUTCOME_SLOT, OUTCOME_WORD, POSTED, SLOTS, STORE_SLOT, TURN_FREE, TURN_TAKEN,
+    TURN_WORD, UNCLAIMED,
+};
 use atomic_table::Table;
 use sat_lits::{Formula, List, Lit};
 use share_store::Store;
@@ -33,12 +37,13 @@ pub struct Exchange {
 impl Model for Exchange {
     ghost use Rattle.std.specs.Prelude.{◌≡◌};
     ghost use Rattle.atomic_table.specs.Seated.{TableId};
+    ghost use Rattle.share_turn.specs.declared.words.TheConstants.{SLOTS};
 
     ghost Value = { TableId };
 
     ghost view = { λ exchange. exchange.table.shared.table_id };
 
-    ghost invariant = { λ exchange. (exchange.table.shared.table_id.words ≡ 2) × (exchange.table.shared.table_id.slots ≡ 2) };
+    ghost invariant = { λ exchange. (exchange.table.shared.table_id.words ≡ 2) × (exchange.table.shared.table_id.slots ≡ SLOTS) };
 }
 
 impl Exchange {
@@ -63,7 +68,7 @@ impl Exchange {
             assumptions: Snapshot::of(&copy),
             solvers,
         };
-        let Ok((table, seat)) = Table::vacant(alloc, &[1, 0], 2, &asked) else {
+        let Ok((table, seat)) = Table::vacant(alloc, &[TURN_TAKEN, UNCLAIMED], SLOTS, &asked) else {
             return Err(BeginRefused { store });
         };
         let exchange = Exchange { table };
@@ -93,7 +98,7 @@ impl Exchange {
         ensures look { Looks pass.old.view pass.new.view result }
     {
         let shared = &self.table.shared;
-        if shared.load::<Glance>(&mut pass.seat, 1) == 2 {
+        if shared.load::<Glance>(&mut pass.seat, OUTCOME_WORD) == POSTED {
             Look::Stop
         } else {
             Look::Go
@@ -108,12 +113,18 @@ impl Exchange {
         ensures turn { Takes pass.old.view pass.new.view result }
     {
         let shared = &self.table.shared;
-        if shared.compare_exchange::<Try>(&mut pass.seat, 0, 0, 1) != 0 {
+        let found = shared.compare_exchange::<Try>(
+            &mut pass.seat,
+            TURN_WORD,
+            TURN_FREE,
+            TURN_TAKEN,
+        );
+        if found != TURN_FREE {
             return Turn::Busy;
         }
-        shared.load::<LiftStore>(&mut pass.seat, 0);
-        let held = shared.exchange(&mut pass.seat, 0, None);
-        shared.load::<HoldStore>(&mut pass.seat, 0);
+        shared.load::<LiftStore>(&mut pass.seat, TURN_WORD);
+        let held = shared.exchange(&mut pass.seat, STORE_SLOT, None);
+        shared.load::<HoldStore>(&mut pass.seat, TURN_WORD);
         match held {
             Some(Held::Stored(store)) => Turn::Got(store),
             Some(Held::Said(_)) => unreachable!(),
@@ -130,13 +141,13 @@ impl Exchange {
         ensures { pass.new ≡ known_of pass.old.table (freed store pass.old.view) }
     {
         let shared = &self.table.shared;
-        shared.load::<ReachBack>(&mut pass.seat, 0);
-        match shared.exchange(&mut pass.seat, 0, Some(Held::Stored(store))) {
+        shared.load::<ReachBack>(&mut pass.seat, TURN_WORD);
+        match shared.exchange(&mut pass.seat, STORE_SLOT, Some(Held::Stored(store))) {
             None => {}
             Some(_) => unreachable!(),
         }
-        shared.load::<PutBack>(&mut pass.seat, 0);
-        shared.store::<Release>(&mut pass.seat, 0, 0);
+        shared.load::<PutBack>(&mut pass.seat, TURN_WORD);
+        shared.store::<Release>(&mut pass.seat, TURN_WORD, TURN_FREE);
     }
 
     /// Posts the outcome of a solver, unless another pass was first.
@@ -147,16 +158,22 @@ impl Exchange {
         ensures post { Posts pass.old.view outcome pass.new.view result }
     {
         let shared = &self.table.shared;
-        if shared.compare_exchange::<Ask>(&mut pass.seat, 1, 0, 1) != 0 {
+        let found = shared.compare_exchange::<Ask>(
+            &mut pass.seat,
+            OUTCOME_WORD,
+            UNCLAIMED,
+            CLAIMED,
+        );
+        if found != UNCLAIMED {
             return PostAnswer::Late(outcome);
         }
-        shared.load::<LiftOutcome>(&mut pass.seat, 1);
-        match shared.exchange(&mut pass.seat, 1, Some(Held::Said(outcome))) {
+        shared.load::<LiftOutcome>(&mut pass.seat, OUTCOME_WORD);
+        match shared.exchange(&mut pass.seat, OUTCOME_SLOT, Some(Held::Said(outcome))) {
             None => {}
             Some(_) => unreachable!(),
         }
-        shared.load::<PutOutcome>(&mut pass.seat, 1);
-        shared.store::<Show>(&mut pass.seat, 1, 2);
+        shared.load::<PutOutcome>(&mut pass.seat, OUTCOME_WORD);
+        shared.store::<Show>(&mut pass.seat, OUTCOME_WORD, POSTED);
         PostAnswer::Posted
     }
 
@@ -171,7 +188,7 @@ impl Exchange {
         let shared = &self.table.shared;
         let Pass { seat } = other;
         shared.join_seat::<Another>(&mut first.seat, seat);
-        shared.load::<Hear>(&mut first.seat, 0);
+        shared.load::<Hear>(&mut first.seat, TURN_WORD);
     }
 
     /// Ends the exchange. The store is there unless a pass that was not joined had the turn. The
@@ -194,10 +211,10 @@ impl Exchange {
         let Exchange { table } = self;
         let Pass { seat } = first;
         let mut closed = table.close_with(seat);
-        let turn = closed.word(0);
-        let stage = closed.word(1);
-        let held = closed.take(0);
-        let said = closed.take(1);
+        let turn = closed.word(TURN_WORD);
+        let stage = closed.word(OUTCOME_WORD);
+        let held = closed.take(STORE_SLOT);
+        let said = closed.take(OUTCOME_SLOT);
         closed.free();
         Closed {
             store: store_of(turn, held),
@@ -206,24 +223,24 @@ impl Exchange {
     }
 }
 
-// The store, where word 0 says that the turn is free.
+// The store, where its word says that the turn is free.
 fn store_of(turn: u64, held: Option<Held>) -> Option<Store>
-    ensures free { (log : List Shared) → turn ≡ 0 → held ≡ Some (Stored log) → result ≡ Some log }
-    ensures taken { turn ≢ 0 → result ≡ None }
+    ensures free { (log : List Shared) → turn ≡ TURN_FREE → held ≡ Some (Stored log) → result ≡ Some log }
+    ensures taken { turn ≢ TURN_FREE → result ≡ None }
 {
     match held {
-        Some(Held::Stored(store)) if turn == 0 => Some(store),
+        Some(Held::Stored(store)) if turn == TURN_FREE => Some(store),
         _ => None,
     }
 }
 
-// The outcome, where word 1 says that it was posted.
+// The outcome, where its word says that it was posted.
 fn outcome_of(stage: u64, said: Option<Held>) -> Option<Outcome>
-    ensures ended { (o : Outcome) → stage ≡ 2 → said ≡ Some (Said o) → result ≡ Some o }
-    ensures unended { stage ≢ 2 → result ≡ None }
+    ensures ended { (o : Outcome) → stage ≡ POSTED → said ≡ Some (Said o) → result ≡ Some o }
+    ensures unended { stage ≢ POSTED → result ≡ None }
 {
     match said {
-        Some(Held::Said(outcome)) if stage == 2 => Some(outcome),
+        Some(Held::Said(outcome)) if stage == POSTED => Some(outcome),
         _ => None,
     }
 }

@@ -16,6 +16,7 @@ mod table;
 #[cfg(test)]
 mod tests;
 mod view;
+mod words;
 
 pub use answers::{BeginRefused, Closed, Look, PostAnswer, Turn};
 pub use exchange::Exchange;

@@ -2,7 +2,7 @@ use Rattle.std.proofs.Common.{rules, ◌≡◌, false, sym, ap, ◌∙◌, subst
 use Rattle.share_turn.specs.declared.view.Phase.TheVariants.{Away, Out}
 use Rattle.share_turn.specs.declared.view.Question.{Question}
 use Rattle.share_turn.specs.Views.{IsLegalFor}
-use Rattle.share_turn.specs.Steps.{unsettled}
+use Rattle.share_turn.specs.Steps.{phase_back}
 use Rattle.share_turn.proofs.TurnSteps.{reaches, lands, releases, in_hand}
 use Rattle.share_turn.proofs.exchange.Exchange.give.Goals as goal
 
@@ -16,7 +16,7 @@ load-requires-2 c =
     let is : c.pass.inside.seat.me.0.turn ≡ Out c.requires.turn.0 = ap (λ k. k.view.turn) c.pass.view_is ∙ c.requires.turn.1 in
     let put = c.exchange.ensures.3 in
     let out = c.load.ensures.2.1 in
-    let at : c.exchange.new.seat.me.0.turn ≡ Away c.requires.turn.0 = ap (λ m. m.0.turn) put ∙ ap (λ v. v.turn) out ∙ ap unsettled is in
+    let at : c.exchange.new.seat.me.0.turn ≡ Away c.requires.turn.0 = ap (λ m. m.0.turn) put ∙ ap (λ v. v.turn) out ∙ ap phase_back is in
     let alive : c.exchange.new.seat.me.0.spent ≡ false = ap (λ m. m.0.spent) put ∙ ap (λ v. v.spent) out ∙ c.pass.invariant.alive in
     let question : c.exchange.new.seat.me.0.question ≡ c.args.pass.now.view.question = ap (λ m. m.0.question) put ∙ ap (λ v. v.question) out ∙ ap (λ k. k.view.question) c.pass.view_is in (
       search rules,

@@ -5,17 +5,17 @@ use Rattle.share_turn.proofs.TurnSteps.{in_hand}
 use Rattle.share_turn.proofs.OutcomeSteps.{asks, holds_up, lays, shows, may_move}
 use Rattle.share_turn.proofs.exchange.Exchange.post.Goals as goal
 
-pub compare_exchange-requires : goal.compare_exchange-requires
-compare_exchange-requires c = (search rules, search rules, asks _ _ _ _ c.pass.invariant.alive c.pass.invariant.quiet)
+pub compare_exchange-found-requires : goal.compare_exchange-found-requires
+compare_exchange-found-requires c = (search rules, search rules, asks _ _ _ _ c.pass.invariant.alive c.pass.invariant.quiet)
 
 pub load-requires : goal.load-requires
 load-requires c =
-    let won = c.compare_exchange.ensures.2.1 c.if-compare_exchange-ne0.false in
+    let won = c.compare_exchange-found.ensures.2.1 c.if-found-ne-UNCLAIMED.false in
     (search rules, search rules, holds_up _ _ _ _ c.self.invariant.1 (ap (λ v. v.spent) won ∙ c.pass.invariant.alive) (ap (λ v. v.claim) won))
 
 pub load-requires-2 : goal.load-requires-2
 load-requires-2 c =
-    let won = c.compare_exchange.ensures.2.1 c.if-compare_exchange-ne0.false in
+    let won = c.compare_exchange-found.ensures.2.1 c.if-found-ne-UNCLAIMED.false in
     let up = c.load.ensures.2.1 in
     let put = c.exchange.ensures.3 in (
       search rules,
@@ -29,7 +29,7 @@ load-requires-2 c =
 
 pub store-requires : goal.store-requires
 store-requires c =
-    let won = c.compare_exchange.ensures.2.1 c.if-compare_exchange-ne0.false in
+    let won = c.compare_exchange-found.ensures.2.1 c.if-found-ne-UNCLAIMED.false in
     let up = c.load.ensures.2.1 in
     let put = c.exchange.ensures.3 in
     let done = c.load-2.ensures.2.1 c.args.outcome (in_hand _ _ _ (ap (λ m. m.1) put)) in
@@ -37,13 +37,13 @@ store-requires c =
 
 pub invariant_of-pass-2 : goal.invariant_of-pass-2
 invariant_of-pass-2 c =
-    let won = c.compare_exchange.ensures.2.1 c.if-compare_exchange-ne0.false in
+    let won = c.compare_exchange-found.ensures.2.1 c.if-found-ne-UNCLAIMED.false in
     let up = c.load.ensures.2.1 in
     let put = c.exchange.ensures.3 in
     let done = c.load-2.ensures.2.1 c.args.outcome (in_hand _ _ _ (ap (λ m. m.1) put)) in
     let last = c.store.ensures.2.1 in
     record {
-      none_out = c.store.ensures.2.0 ∙ c.load-2.ensures.2.0 ∙ ap (λ m. rest m.1) put ∙ ap rest c.load.ensures.2.0 ∙ c.compare_exchange.ensures.2.0 ∙ c.pass.invariant.none_out;
+      none_out = c.store.ensures.2.0 ∙ c.load-2.ensures.2.0 ∙ ap (λ m. rest m.1) put ∙ ap rest c.load.ensures.2.0 ∙ c.compare_exchange-found.ensures.2.0 ∙ c.pass.invariant.none_out;
       still = subst IsStill (sym (ap (λ v. v.turn) last ∙ ap (λ v. v.turn) done ∙ ap (λ m. m.0.turn) put ∙ ap (λ v. v.turn) up ∙ ap (λ v. v.turn) won)) c.pass.invariant.still;
       quiet = ap (λ v. v.claim) last;
       alive = ap (λ v. v.spent) last ∙ ap (λ v. v.spent) done ∙ ap (λ m. m.0.spent) put ∙ ap (λ v. v.spent) up ∙ ap (λ v. v.spent) won ∙ c.pass.invariant.alive;
