@@ -31,7 +31,6 @@ pub fn fix_units(state: &mut PrivateState) -> Result<(), NoMemory>
     ensures left { OnOk result (IsTrue state.new.okay → HasNoUnits state.new) }
 {
     'units: loop {
-        state.stands();
         match find_short(state.clauses()) {
             Length::Empty => {
                 state.refute();

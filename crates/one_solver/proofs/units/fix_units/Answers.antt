@@ -1,4 +1,4 @@
-use Rattle.std.proofs.Common.{◌≡◌, not, true, List, subst, sym, ap, ◌∙◌}
+use Rattle.std.proofs.Common.{◌≡◌, not, true, subst, sym, ap, ◌∙◌}
 use Rattle.std.specs.List.{list_any, list_all}
 use Rattle.sat_lits.specs.InLits.{same_lit as same_in}
 use Rattle.sat_lits.specs.declared.literal.OwnLit.{OwnLit}
@@ -25,7 +25,7 @@ own : (c : After-own_lit) → c.own_lit.result ≡ own_of c.units.state.maps c.i
 own c = c.own_lit.ensures ∙ ap (λ (m : Maps). own_of m c.in-Single.lit) c.maps.ensures.value
 
 active : (c : After-own_lit) → is_active (state_of c.units.state) c.own_lit.result.var.0 ≡ true
-active c = ap (λ (o : OwnLit). is_active (state_of c.units.state) o.var.0) (own c) ∙ unit_active c.units.state c.in-Single.lit c.stands.ensures (held c)
+active c = ap (λ (o : OwnLit). is_active (state_of c.units.state) o.var.0) (own c) ∙ unit_active c.units.state c.in-Single.lit c.clauses.ensures.standing (held c)
 
 pub fix-requires-clause-active : goal.fix-requires-clause-active
 fix-requires-clause-active c = active c
@@ -37,7 +37,7 @@ pub units-smaller : goal.units-smaller
 units-smaller c = fewer_active c.units.state c.fix.new.self c.own_lit.result (active ((goal.at.units-smaller c).After-own_lit)) c.in_ok-fix-in-Single.ensures.ok
 
 pub units-preserved : goal.units-preserved
-units-preserved c = fixing_step c.args.state.now c.units.state c.fix.new.self c.own_lit.result c.stands.ensures (active ((goal.at.units-preserved c).After-own_lit)) c.in_ok-fix-in-Single.ensures.ok c.units.invariant
+units-preserved c = fixing_step c.args.state.now c.units.state c.fix.new.self c.own_lit.result c.clauses.ensures.standing (active ((goal.at.units-preserved c).After-own_lit)) c.in_ok-fix-in-Single.ensures.ok c.units.invariant
 
 left : (c : In-Longer) → HasNoUnits c.units.state
 left c = has_no_units c.units.state (ap (λ (s : Store). list_all (λ h. not (is_short h.lits)) s.held) (sym c.clauses.ensures.value) ∙ c.in-Longer.ensures)
