@@ -83,14 +83,14 @@ fewer_than c a n h l = let z : 0 < 3 = omega arith in let p : 3 ^ a ≤ 3 ^ n = 
 
 -- the limit was spent
 pub spends : (old new : Parts) (limit : Option ℕ) (c a count : ℕ) → IsUnderWay old → IfSome limit (λ m. old.conflicts ≤ m) → IfSome limit (λ m. m < 2 ^ 64) → option_map (λ m. m - old.conflicts) limit ≡ Some c
-    → c < 3 ^ a → a ≤ own_count (problem_in old) → new.conflicts ≡ saturated old.conflicts c → count ≡ new.conflicts → SpendsLimit old new limit count
+    → c < 3 ^ a → a ≤ own_count (problem_in old) → new.conflicts ≡ saturated old.conflicts c → count ≡ new.conflicts → SpendsLimit (problem_in old) limit new.conflicts count
 spends old new limit c a count u w r e few active t s =
     let (m, is, sum) = left_some limit old.conflicts c e w in
     let most : m < 2 ^ 64 = at_some limit m (λ (x : ℕ). x < 2 ^ 64) is r in
     let same : count ≡ m = omega arith in
     let bound : intervals_len old.interval + c < enough (own_count (problem_in old)) = less_than_enough (own_count (problem_in old)) old.interval c u.few u.short (fewer_than c a (own_count (problem_in old)) few active) in
     let begun : old.conflicts ≡ intervals_len old.interval = u.counted in
-    record { limit_is = is ∙ ap (λ (x : ℕ). Some x) (sym same); conflicts = sym s; few = omega arith }
+    record { limit_is = is ∙ ap (λ (x : ℕ). Some x) (sym same); made = sym s; few = omega arith }
 
 -- all the first intervals together are far below the last value of a count
 in_range : (i : ℕ) → i ≤ 2 ^ 20 → intervals_len i < 2 ^ 64 - 1

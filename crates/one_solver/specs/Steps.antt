@@ -32,11 +32,11 @@ pub record EndsInterval (old new : Parts) (limit : Option ℕ) : Type 0 where
   pub tidy : IsTidy old.interval new
   pub within : IfSome limit (λ most. new.conflicts < most)
 
--- the conflicts of the call are the limit, which is less than enough
-pub record SpendsLimit (old new : Parts) (limit : Option ℕ) (count : ℕ) : Type 0 where
+-- the conflicts of a call are the limit, which is less than enough for a formula
+pub record SpendsLimit (f : Problem) (limit : Option ℕ) (conflicts count : ℕ) : Type 0 where
   pub limit_is : limit ≡ Some count
-  pub conflicts : new.conflicts ≡ count
-  pub few : count < enough (own_count (problem_in old))
+  pub made : conflicts ≡ count
+  pub few : count < enough (own_count f)
 
 -- a stop was asked for, below the limit
 pub record IsAsked (new : Parts) (limit : Option ℕ) (before now : ℕ) : Type 0 where
@@ -47,7 +47,7 @@ pub record IsAsked (new : Parts) (limit : Option ℕ) (before now : ℕ) : Type 
 abbrev pub StepsRight : Parts → Parts → Option ℕ → ℕ → ℕ → StepAnswer → Type 0
 StepsRight old new limit before now (Verdict v) = IsRight (problem_in old) [] v
 StepsRight old new limit before now IntervalOver = EndsInterval old new limit
-StepsRight old new limit before now (Spent count) = SpendsLimit old new limit count
+StepsRight old new limit before now (Spent count) = SpendsLimit (problem_in old) limit new.conflicts count
 StepsRight old new limit before now Asked = IsAsked new limit before now
 StepsRight old new limit before now Memory = Unit {0}
 

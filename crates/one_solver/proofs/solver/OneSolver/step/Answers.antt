@@ -61,6 +61,6 @@ returns-in-Spent-clause-right g c =
     let d : After-left_of-left g = (goal.at.returns-in-Spent-clause-right g c).After-left_of-left in
     let old : Parts = parts_of c.self.inside in
     let new : Parts = record old { kernel = c.run_interval-answer.new.state; conflicts = c.run_interval-answer.new.tally } in
-    subst (λ (s : Parts). SpendsLimit s new c.args.limit c.count-in-Spent.result) c.self.view_is
+    subst (λ (s : Parts). SpendsLimit (problem_in s) c.args.limit new.conflicts c.count-in-Spent.result) c.self.view_is
     (spends old new c.args.limit c.run_interval-answer.new.self (length old.kernel.maps.inners) c.count-in-Spent.result (under_way g d) (within g d) c.left_of-left.ensures.range (sym (left g d) ∙ c.in-Spent.ensures.ends.0)
     c.in-Spent.ensures.own (few g d) c.in-Spent.ensures.tallied c.count-in-Spent.ensures)
