@@ -1,42 +1,40 @@
 -- What fixing a literal leaves of the clauses of one literal.
-use Rattle.std.proofs.Common.{◌≡◌, ℕ, zero, suc, ◌+◌, ◌<◌, ◌≤◌, ◌==◌, Bool, true, false, cond, not, ◌&&◌, ◌||◌, ◌⊎◌, List, [], ◌∷◌, ◌++◌, Option, Some, None, refl, sym, ap, ap₂, subst, ◌∙◌, ⊎_elim, inl, inr, filter, map, set, get_or, length, count_by, arith}
+use Rattle.std.proofs.Common.{◌≡◌, ℕ, ◌<◌, ◌==◌, Bool, true, false, cond, not, ◌&&◌, ◌||◌, List, [], ◌∷◌, ◌++◌, Option, Some, None, refl, sym, ap, ap₂, subst, ◌∙◌, ⊎_elim, inl, inr, filter, map, set, get_or, count_by, arith}
 use Rattle.std.specs.List.{list_any, list_all, cons_option}
 use Rattle.std.specs.Option.{is_none}
 use Rattle.std.specs.Bool.{beq}
-use Rattle.std.proofs.lemmas.Bool.{and_parts, and_from, or_cases, or_left, or_right, eqb-true, eq-eqb, eqb-false, false≢true, true≢false, not-true}
+use Rattle.std.proofs.lemmas.Bool.{and_parts, and_from, or_cases, or_left, or_right, eqb-true, eq-eqb, false≢true, true≢false, not-true}
 use Rattle.std.proofs.lemmas.List.Folds.{list_any-append, list_all-append}
 use Rattle.std.proofs.lemmas.List.Sums.{sum_by-set}
-use Rattle.sat_lits.specs.ListLaws.{all_or_any, any_mono, any_filter, all_mono}
+use Rattle.sat_lits.specs.ListLaws.{all_or_any, any_mono, any_filter}
 use Rattle.sat_lits.specs.ClauseLaws.{beq_true}
-use Rattle.sat_lits.specs.Truth.{signed, clause_value, clauses_value}
+use Rattle.sat_lits.specs.Truth.{signed, clause_value}
 use Rattle.sat_lits.specs.InLits.{same_lit as same_in}
 use Rattle.sat_lits.specs.declared.literal.OwnLit.{OwnLit}
 use Rattle.sat_lits.specs.declared.literal.InLit.{InLit}
-use Rattle.rebuild_stack.specs.Values.{own_value, each_lit}
-use Rattle.rebuild_stack.specs.Entries.{named, names, is_gone, entry_value}
+use Rattle.rebuild_stack.specs.Values.{own_value}
+use Rattle.rebuild_stack.specs.Entries.{names, is_gone}
 use Rattle.rebuild_stack.specs.Roots.{root}
 use Rattle.rebuild_stack.specs.PutIn.{same_lit, add_root, put_in, put_in_all}
 use Rattle.rebuild_stack.specs.declared.entry.Root.TheVariants.{Known, Last}
-use Rattle.rebuild_stack.specs.OrderLaws.{unnamed}
 use Rattle.rebuild_stack.specs.declared.entry.Entry.{Entry}
 use Rattle.rebuild_stack.specs.declared.entry.Entry.TheVariants.{Fix}
-use Rattle.clause_store.specs.Store.{Held, hard_of, learned_of}
+use Rattle.clause_store.specs.Store.{Held, hard_of}
 use Rattle.var_maps.specs.Maps.{Maps}
 use Rattle.state_laws.specs.State.{State, is_active}
-use Rattle.state_laws.specs.Stands.{Stands}
-use Rattle.state_laws.specs.Resolution.{is_of, mentions}
+use Rattle.state_laws.specs.Resolution.{mentions}
 use Rattle.state_laws.specs.Moves.{put_through, put_into}
-use Rattle.state_laws.specs.Conditions.{Satisfies, EntryFollows, IsContradicted}
+use Rattle.state_laws.specs.Conditions.{EntryFollows, IsContradicted}
 use Rattle.state_laws.specs.Held.{own_of, own_clause, own_clauses}
 use Rattle.state_laws.specs.Kernel.{Kernel, state_of, Standing}
-use Rattle.state_laws.specs.PlaceLaws.{active_in, once_named, one_if}
+use Rattle.state_laws.specs.PlaceLaws.{active_in}
 use Rattle.state_laws.specs.ViewLaws.{both_lists}
 use Rattle.state_laws.specs.RootTableLaws.{entry_of, entry_of-some, entry_of-push}
 use Rattle.private_state.specs.Removed.{fixed_value}
 use Rattle.private_state.proofs.Moving.{active_unnamed}
 use Rattle.one_solver.specs.Basic.{is_clause, IsBasic}
 use Rattle.one_solver.specs.Fixing.{IsHeldOrFixed, IsFixing}
-use Rattle.one_solver.specs.Units.{is_short, is_empty, is_unit, HasNoUnits, IsFixed, FixesUnits, TookSame}
+use Rattle.one_solver.specs.Units.{is_short, is_empty, is_unit, HasNoUnits, IsFixed, FixesUnits}
 
 -- a clause of one literal is that literal
 pub unit_is : (l : InLit) (c : List InLit) → is_unit (same_in l) c ≡ true → c ≡ l ∷ []

@@ -277,7 +277,8 @@ impl PrivateState {
     /// Makes the state not okay. The hard and the learned clauses have no solution.
     pub fn refute(&mut self)
         requires { IsContradicted (state_of self.old) }
-        ensures { self.new ≡ record self.old { okay = false } }
+        ensures value { self.new ≡ record self.old { okay = false } }
+        ensures standing { Standing self.new }
     {
         self.okay = false;
     }

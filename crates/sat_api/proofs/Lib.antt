@@ -1,3 +1,2 @@
 pub mod Refusals
-pub mod Calls
 pub mod Verdicts

@@ -3,12 +3,12 @@ use Rattle.std.proofs.Common.{◌≡◌, ℕ, Bool, true, false, not, ◌||◌, 
 use Rattle.std.proofs.lemmas.Bool.{or_left, or_right, true≢false}
 use Rattle.sat_lits.specs.Truth.{signed}
 use Rattle.sat_lits.specs.ClauseLaws.{signed_not}
-use Rattle.sat_lits.specs.Meaning.{Problem, IsModel, Follows, satisfies_clause, is_true, value_of}
+use Rattle.sat_lits.specs.Meaning.{Problem, IsModel, Follows, satisfies_clause, is_true, value_of, negated}
 use Rattle.sat_lits.specs.Verdicts.{makes_true, IsFailed, IsRight}
 use Rattle.sat_lits.specs.declared.verdict.Verdict.{Verdict}
 use Rattle.sat_lits.specs.declared.verdict.Verdict.TheVariants.{Unsat}
 use Rattle.sat_lits.specs.declared.literal.Lit.{Lit}
-use Rattle.sat_api.specs.Answers.{negated, HasModelUnder}
+use Rattle.sat_api.specs.Answers.{HasModelUnder}
 use Rattle.sat_api.specs.Decisions.{IsFound}
 use Rattle.sat_api.specs.Laws.{makes_true-StandAt}
 use Rattle.sat_api.specs.declared.decide.Found.{Found}

@@ -1,23 +1,16 @@
 -- What an answer says.
-use Rattle.std.specs.Prelude.{◌≡◌, ℕ, ◌<◌, ◌≤◌, Bool, true, not, List, [], ◌∷◌, map, Some, None}
+use Rattle.std.specs.Prelude.{◌≡◌, ℕ, ◌<◌, Bool, true, List, [], ◌∷◌, map, Some, None}
 use Rattle.sat_lits.specs.Conflicts.{own_count, enough}
+pub use Rattle.sat_lits.specs.Meaning.{negated}
 use Rattle.sat_lits.specs.Meaning.{Problem, IsModel}
+pub use Rattle.sat_ports.specs.Causes.{RoseBy}
 use Rattle.sat_lits.specs.Verdicts.{makes_true, IsRight}
 use Rattle.sat_lits.specs.declared.literal.Lit.{Lit}
 use Rattle.sat_lits.specs.declared.verdict.Verdict.TheVariants as verdict
-use Rattle.analyze.specs.Counting.{saturated}
 use Rattle.sat_api.specs.declared.solver.Cause.TheVariants.{Limit}
 use Rattle.sat_api.specs.declared.solver.Answer.{Answer}
 use Rattle.sat_api.specs.declared.solver.Answer.TheVariants.{Sat, Unsat, Unknown}
 use Rattle.sat_api.specs.State.{SolverState}
-
--- the literal that is true where this one is false
-abbrev pub negated : Lit → Lit
-negated l = record { var = l.var; negative = not l.negative }
-
--- a count rose by at least so much, or stands at its last value
-abbrev pub RoseBy : ℕ → ℕ → ℕ → Type 0
-RoseBy by before now = saturated before by ≤ now
 
 -- a model that makes every assumption true is left to be read
 pub record TellsModel (f : Problem) (assumptions : List Lit) (new : SolverState) : Type 0 where

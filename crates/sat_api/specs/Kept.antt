@@ -1,5 +1,5 @@
 -- What the fields of a solver mean, and what they keep.
-use Rattle.std.specs.Prelude.{◌≡◌, ◌≤◌, true}
+use Rattle.std.specs.Prelude.{◌≡◌, true}
 use Rattle.std.specs.List.{list_all}
 use Rattle.sat_lits.specs.Formulas.{Extends}
 use Rattle.one_solver.specs.Basic.{is_clause}
@@ -22,4 +22,3 @@ pub record IsKept (s : Inside) : Type 0 where
   pub backed : IsBacked (state_of s)
   pub front : Extends (problem_in s.solver) s.formula.problem
   pub clauses : list_all is_clause s.formula.problem.items ≡ true
-  pub few : s.formula.limits.vars ≤ 16777215

@@ -1,9 +1,10 @@
 -- What contracts see of a solver.
-use Rattle.std.specs.Prelude.{◌≡◌, ℕ, ◌≤◌, Bool, List, [], None}
+use Rattle.std.specs.Prelude.{◌≡◌, ℕ, ◌≤◌, Bool, List, None}
 use Rattle.std.specs.declared.option.Option.{Option}
 use Rattle.std.specs.Option.{ForSome}
 use Rattle.sat_lits.specs.Limits.{LimitNumbers}
 use Rattle.sat_lits.specs.Meaning.{Problem, IsModel, Follows}
+use Rattle.sat_lits.specs.Formulas.{no_problem}
 use Rattle.sat_lits.specs.declared.literal.Lit.{Lit}
 
 -- the formula of the items that were taken, the limits, the conflict limit of later questions, the conflicts counted so far, and what the latest call left to be read
@@ -18,7 +19,7 @@ pub record SolverState : Type 0 where
 -- a solver that took nothing
 abbrev pub new_solver : LimitNumbers → SolverState
 new_solver limits = record {
-  problem = record { vars = 0; items = [] };
+  problem = no_problem;
   limits = limits;
   max_conflicts = None;
   counted = 0;

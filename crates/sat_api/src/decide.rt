@@ -1,4 +1,4 @@
-ghost use Rattle.std.specs.Prelude.{◌≡◌, ◌≤◌, ◌^◌, [], IfOk, IsTrue};
+ghost use Rattle.std.specs.Prelude.{◌≡◌, [], IfOk, IsTrue};
 ghost use Rattle.std.specs.List.{list_all};
 ghost use Rattle.sat_lits.specs.Formulas.{Extends};
 ghost use Rattle.one_solver.specs.Basic.{is_clause};
@@ -28,7 +28,6 @@ pub fn decide(
     limit: Option<u64>,
 ) -> Result<Found, NoMemory>
     requires front { Extends (problem_in solver.old) formula.now.problem }
-    requires few { formula.now.problem.vars ≤ 2 ^ 31 }
     requires clauses { IsTrue (list_all is_clause formula.now.problem.items) }
     requires assumptions { assumptions.now ≡ [] }
     ensures found { IfOk result (IsFound formula.now.problem limit solver.new.conflicts) }

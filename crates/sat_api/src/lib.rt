@@ -11,4 +11,4 @@ mod solver;
 mod tests;
 
 pub use error::ApiError;
-pub use solver::{Answer, Cause, SatSolver, negated};
+pub use solver::{Answer, Cause, SatSolver};

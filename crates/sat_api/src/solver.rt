@@ -1,17 +1,17 @@
-ghost use Rattle.std.specs.Prelude.{◌≡◌, ◌≢◌, ◌+◌, ◌<◌, ◌↔◌, ℕ, [], Some, None, Err, length, map, IfOk, IfErr, IfSome, OnOk, OnErr};
+ghost use Rattle.std.specs.Prelude.{◌≡◌, ◌≢◌, ◌+◌, ◌<◌, ◌↔◌, ℕ, [], Some, None, Err, length, IfOk, IfErr, IfSome, OnOk, OnErr};
 ghost use Rattle.std.specs.Option.{option_copied};
 ghost use Rattle.sat_lits.specs.declared.formula.Item.TheVariants.{Clause};
 ghost use Rattle.sat_lits.specs.Limits.{standard_limits};
 ghost use Rattle.sat_lits.specs.Meaning.{IsModel, Follows};
 ghost use Rattle.sat_lits.specs.Formulas.{with_vars, with_item, first_unknown, numbers_of, lit_count};
 ghost use Rattle.sat_api.specs.State.{new_solver, unanswered, with_problem, Keeps};
-ghost use Rattle.sat_api.specs.Answers.{Answers, Decides, negated};
+ghost use Rattle.sat_api.specs.Answers.{Answers, Decides};
 
 use crate::decide::{Found, decide};
 use crate::error::ApiError;
 use analyze::Tally;
 use one_solver::OneSolver;
-use sat_lits::{Formula, Limits, List, Lit, NoMemory, Verdict};
+use sat_lits::{Formula, Limits, List, Lit, Verdict};
 use sat_ports::Alarm;
 use std::alloc::Global;
 use std::marker::Model;
@@ -148,8 +148,7 @@ impl SatSolver {
     {
         self.model = None;
         self.conflict = None;
-        // That the variables are within the limit and the count has 64 bits is known from here on.
-        let _vars = self.formula.vars();
+        // That the count has 64 bits is known from here on.
         let _counted = self.tally.count();
         let found = decide(
             &mut self.solver,
@@ -163,8 +162,9 @@ impl SatSolver {
                 self.model = Some(values);
                 Ok(Answer::Sat)
             }
-            Found::Verdict(Verdict::Unsat(failed)) => {
-                self.conflict = Some(negated(self.alloc, failed.as_slice())?);
+            Found::Verdict(Verdict::Unsat(mut failed)) => {
+                failed.negate();
+                self.conflict = Some(failed);
                 Ok(Answer::Unsat)
             }
             Found::Spent { count } => {
@@ -207,18 +207,4 @@ impl SatSolver {
     {
         self.conflict.as_ref().map(|lits| lits.as_slice())
     }
-}
-
-/// The literals with their signs turned. The only error is want of memory.
-pub fn negated(alloc: Global, lits: &[Lit]) -> Result<List<Lit>, NoMemory>
-    ensures { IfOk result (λ list. list ≡ map negated lits.now) }
-{
-    let mut turned = List::new(alloc);
-    for lit in lits {
-        turned.push(Lit {
-            var: lit.var,
-            negative: !lit.negative,
-        })?;
-    }
-    Ok(turned)
 }

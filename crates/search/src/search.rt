@@ -56,7 +56,7 @@ impl Search {
     /// A conflict counts where a clause was learned from it, and the tally rises by these alone.
     /// Each such clause is added to the learned ones and is new: it has not all literals of one
     /// that stood before it. Nothing else of the state changes. The interval makes fewer conflicts
-    /// than 3 to the number of active variables.
+    /// than 3 to the number of active variables, and so than 3 to the number of own ones.
     pub fn run_interval<S: Alarm>(
         &mut self,
         state: &mut PrivateState,
@@ -72,6 +72,7 @@ impl Search {
         ensures ends { EndsRight (own_length interval) left self.new result }
         ensures learned { LearnsRight state.old state.new self.new result }
         ensures few { self.new < 3 ^ length (in_use state.old.maps) }
+        ensures own { self.new < 3 ^ length state.old.maps.inners }
         ensures tallied { tally.new ≡ saturated tally.old self.new }
         ensures stop { S.kept stop.old stop.new }
         ensures later { S.raises stop.old ≤ S.raises stop.new }

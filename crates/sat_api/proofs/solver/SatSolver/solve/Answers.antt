@@ -1,11 +1,11 @@
 use Rattle.std.proofs.Common.{◌≡◌, Bool, [], List, Option, Some, None, map, sym, subst, ap, ◌∙◌}
-use Rattle.sat_lits.specs.Meaning.{Problem, Follows}
+use Rattle.sat_lits.specs.Meaning.{Problem, Follows, negated}
 use Rattle.sat_lits.specs.Formulas.{Extends}
 use Rattle.sat_lits.specs.Verdicts.{IsFailed}
 use Rattle.sat_lits.specs.declared.literal.Lit.{Lit}
 use Rattle.one_solver.specs.Parts.{Parts, problem_in}
 use Rattle.sat_api.specs.State.{SolverState}
-use Rattle.sat_api.specs.Answers.{negated, HasModelUnder}
+use Rattle.sat_api.specs.Answers.{HasModelUnder}
 use Rattle.sat_api.proofs.Verdicts.{negated_follow, found_failed, none_under}
 use Rattle.sat_api.proofs.solver.SatSolver.solve.Goals as goal
 
@@ -20,17 +20,16 @@ invariant_of-self-in-Verdict-Unsat g c =
       backed = record {
         model = λ values e. absurd (let none : ◌≡◌ {A = Option (List Bool)} None (Some values) = e in cc);
         conflict = λ lits e.
-            let same : c.in_ok-negated-in-Verdict-Unsat.field-0 ≡ lits = some_same _ lits e in
-            subst (λ (ls : List Lit). Follows f ls) (sym (c.in_ok-negated-in-Verdict-Unsat.ensures ∙ ap (map negated) c.as_slice.ensures) ∙ same) (negated_follow f [] c.in-Verdict-Unsat.failed failed);
+            let same : c.negate.new.self ≡ lits = some_same _ lits e in
+            subst (λ (ls : List Lit). Follows f ls) (sym c.negate.ensures ∙ same) (negated_follow f [] c.in-Verdict-Unsat.failed failed);
       };
       front = subst (λ (s : Parts). Extends (problem_in s) f) (sym c.pour.ensures.emptied) c.decide-found.ensures.front;
       clauses = c.self.invariant.clauses;
-      few = c.self.invariant.few;
     }
 
-pub returns-in_ok-negated-in-Verdict-Unsat-clause-decided :
-    goal.returns-in_ok-negated-in-Verdict-Unsat-clause-decided
-returns-in_ok-negated-in-Verdict-Unsat-clause-decided g c =
+pub returns-in-Verdict-Unsat-clause-decided :
+    goal.returns-in-Verdict-Unsat-clause-decided
+returns-in-Verdict-Unsat-clause-decided g c =
     let f : Problem = c.self.inside.formula.problem in
     let failed : IsFailed f [] c.in-Verdict-Unsat.failed = found_failed f c.self.inside.max_conflicts _ c.in_ok-values.field-0 c.in-Verdict-Unsat.field-0 c.in-Verdict-Unsat.failed c.in-Verdict-Unsat.is c.in-Verdict-Unsat.field-0-is c.in_ok-values.ensures.found in
     subst (λ (s : SolverState). HasModelUnder s.problem c.args.assumptions.now → ⊥) c.self.view_is (none_under f c.in-Verdict-Unsat.failed c.args.assumptions.now failed)

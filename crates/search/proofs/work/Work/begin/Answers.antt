@@ -1,7 +1,7 @@
 use Rattle.std.proofs.Common.{◌≡◌, ℕ, [], true, length, map, max, refl, sym, ap, subst, ◌∙◌}
 use Rattle.trail.specs.Trail.{Assignment}
 use Rattle.clause_store.specs.Store.{Store}
-use Rattle.var_maps.specs.Maps.{Maps}
+use Rattle.var_maps.specs.Maps.{Maps, Matched}
 use Rattle.propagate.specs.Watching.{clauses_below, taken_as}
 use Rattle.sat_lits.specs.declared.literal.Inner.{Inner}
 use Rattle.search.specs.InUse.{in_use}
@@ -30,3 +30,6 @@ returns-clause-at c =
     (prepared_just c.as_slice.result.now c.args.phase c.args.self.now.order.known c.prepare.new.self.known (in_use c.args.state.now.maps) c.in_ok-prepare.ensures.ok
     (ap (map (λ (i : Inner). i.0)) c.as_slice.ensures ∙ (c.in_ok-numbers.ensures ∙ ap in_use c.maps-2.ensures.value)))
     (passed_none c.prepare.new.self [] c.in_ok-prepare.ensures.passed) c.in_ok-self.ensures c.clear.ensures refl refl c.maps.ensures.standing c.requires.active c.requires.few
+
+pub returns-clause-matched : goal.returns-clause-matched
+returns-clause-matched c = subst Matched c.maps.ensures.value c.inner_len-variables.ensures.matched
