@@ -1,5 +1,5 @@
 -- The conflicts of a call.
-use Rattle.std.proofs.Common.{◌≡◌, ◌⊎◌, inl, inr, ℕ, zero, suc, ◌+◌, ◌-◌, ◌^◌, ◌<◌, ◌≤◌, Bool, true, false, cond, List, [], ◌∷◌, Option, Some, None, refl, sym, ap, subst, ◌∙◌, ⊎_elim, length, map, sum, min, option_map, arith, rules, add-one, IfSome, ltb, ltb-true}
+use Rattle.std.proofs.Common.{◌≡◌, ℕ, zero, suc, ◌+◌, ◌-◌, ◌^◌, ◌<◌, ◌≤◌, Bool, true, false, cond, List, [], ◌∷◌, Option, Some, None, refl, sym, ap, subst, ◌∙◌, ⊎_elim, length, map, sum, option_map, arith, rules, add-one, IfSome, ltb, ltb-true}
 use Rattle.std.specs.List.{range_with_len}
 use Rattle.std.specs.Option.{is_some}
 use Rattle.std.proofs.Math.Nat.{pow-le-pow_right}
@@ -12,8 +12,8 @@ use Rattle.sat_lits.specs.Verdicts.{IsFailed}
 use Rattle.sat_lits.specs.Meaning.{Problem}
 use Rattle.sat_lits.specs.declared.literal.Own.{Own}
 use Rattle.analyze.specs.Counting.{saturated}
-use Rattle.var_maps.specs.Maps.{Maps, Matched}
-use Rattle.state_laws.specs.State.{outer_count, problem_of}
+use Rattle.var_maps.specs.Maps.{Matched}
+use Rattle.state_laws.specs.State.{problem_of}
 use Rattle.state_laws.specs.Kernel.{Kernel, state_of, Standing}
 use Rattle.search.specs.InUse.{owned_from, in_use}
 use Rattle.search.specs.Answers.{own_length, IsBelow}

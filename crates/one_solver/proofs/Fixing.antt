@@ -1,35 +1,33 @@
 -- What fixing a literal leaves of the clauses of one literal.
-use Rattle.std.proofs.Common.{◌≡◌, ℕ, zero, suc, ◌+◌, ◌<◌, ◌≤◌, ◌==◌, Bool, true, false, cond, not, ◌&&◌, ◌||◌, ◌⊎◌, List, [], ◌∷◌, ◌++◌, Option, Some, None, refl, sym, ap, ap₂, subst, ◌∙◌, ⊎_elim, inl, inr, filter, map, set, get_or, length, count_by, arith}
+use Rattle.std.proofs.Common.{◌≡◌, ℕ, ◌<◌, ◌==◌, Bool, true, false, cond, not, ◌&&◌, ◌||◌, List, [], ◌∷◌, ◌++◌, Option, Some, None, refl, sym, ap, ap₂, subst, ◌∙◌, ⊎_elim, inl, inr, filter, map, set, get_or, count_by, arith}
 use Rattle.std.specs.List.{list_any, list_all, cons_option}
 use Rattle.std.specs.Option.{is_none}
 use Rattle.std.specs.Bool.{beq}
-use Rattle.std.proofs.lemmas.Bool.{and_parts, and_from, or_cases, or_left, or_right, eqb-true, eq-eqb, eqb-false, false≢true, true≢false, not-true}
+use Rattle.std.proofs.lemmas.Bool.{and_parts, and_from, or_cases, or_left, or_right, eqb-true, eq-eqb, false≢true, true≢false, not-true}
 use Rattle.std.proofs.lemmas.List.Folds.{list_any-append, list_all-append}
 use Rattle.std.proofs.lemmas.List.Sums.{sum_by-set}
-use Rattle.sat_lits.specs.ListLaws.{all_or_any, any_mono, any_filter, all_mono}
+use Rattle.sat_lits.specs.ListLaws.{all_or_any, any_mono, any_filter}
 use Rattle.sat_lits.specs.ClauseLaws.{beq_true}
-use Rattle.sat_lits.specs.Truth.{signed, clause_value, clauses_value}
+use Rattle.sat_lits.specs.Truth.{signed, clause_value}
 use Rattle.sat_lits.specs.InLits.{same_lit as same_in}
 use Rattle.sat_lits.specs.declared.literal.OwnLit.{OwnLit}
 use Rattle.sat_lits.specs.declared.literal.InLit.{InLit}
-use Rattle.rebuild_stack.specs.Values.{own_value, each_lit}
-use Rattle.rebuild_stack.specs.Entries.{named, names, is_gone, entry_value}
+use Rattle.rebuild_stack.specs.Values.{own_value}
+use Rattle.rebuild_stack.specs.Entries.{names, is_gone}
 use Rattle.rebuild_stack.specs.Roots.{root}
 use Rattle.rebuild_stack.specs.PutIn.{same_lit, add_root, put_in, put_in_all}
 use Rattle.rebuild_stack.specs.declared.entry.Root.TheVariants.{Known, Last}
-use Rattle.rebuild_stack.specs.OrderLaws.{unnamed}
 use Rattle.rebuild_stack.specs.declared.entry.Entry.{Entry}
 use Rattle.rebuild_stack.specs.declared.entry.Entry.TheVariants.{Fix}
-use Rattle.clause_store.specs.Store.{Held, hard_of, learned_of}
+use Rattle.clause_store.specs.Store.{Held, hard_of}
 use Rattle.var_maps.specs.Maps.{Maps}
 use Rattle.state_laws.specs.State.{State, is_active}
-use Rattle.state_laws.specs.Stands.{Stands}
-use Rattle.state_laws.specs.Resolution.{is_of, mentions}
+use Rattle.state_laws.specs.Resolution.{mentions}
 use Rattle.state_laws.specs.Moves.{put_through, put_into}
-use Rattle.state_laws.specs.Conditions.{Satisfies, EntryFollows, IsContradicted}
+use Rattle.state_laws.specs.Conditions.{EntryFollows, IsContradicted}
 use Rattle.state_laws.specs.Held.{own_of, own_clause, own_clauses}
 use Rattle.state_laws.specs.Kernel.{Kernel, state_of, Standing}
-use Rattle.state_laws.specs.PlaceLaws.{active_in, once_named, one_if}
+use Rattle.state_laws.specs.PlaceLaws.{active_in}
 use Rattle.state_laws.specs.ViewLaws.{both_lists}
 use Rattle.state_laws.specs.RootTableLaws.{entry_of, entry_of-some, entry_of-push}
 use Rattle.private_state.specs.Removed.{fixed_value}
@@ -251,3 +249,16 @@ fixing_end first k h n l u = ⊎_elim (λ f. absurd (none (is_unit (same_lit l))
   where
     none : (p : List OwnLit → Bool) → ((c : List OwnLit) → p c ≡ true → is_short c ≡ true) → list_any p (state_of k).hard ≡ true → ⊥
     none p q f = all_or_any (λ c. not (is_short c)) p ⊥ (state_of k).hard n f (λ c x y. false≢true (sym (not-true _ x) ∙ q c y))
+
+-- new ids of clauses change nothing of this
+pub renumbered_basic : (k n : Kernel) → n ≡ record k { store = n.store } → IsBasic k → IsBasic n
+renumbered_basic k n e b = subst (λ (z : Kernel). IsBasic z) (sym e) (record { items = b.items; entries = b.entries; outer = b.outer; kept = b.kept })
+
+pub renumbered_same : (first k n : Kernel) → n ≡ record k { store = n.store } → TookSame first k → TookSame first n
+renumbered_same first k n e t = subst (λ (z : Kernel). TookSame first z) (sym e) (record { items = t.items; entries = t.entries; definitions = t.definitions; okay = t.okay })
+
+pub renumbered_fixed : (first k n : Kernel) → n ≡ record k { store = n.store } → (k.okay ≡ true → FixesUnits first k) → n.okay ≡ true → FixesUnits first n
+renumbered_fixed first k n e f o l u = ap (λ (z : Kernel). fixed_value (entry_of l.var.0 z.stack)) e ∙ f (sym (ap (λ (z : Kernel). z.okay) e) ∙ o) l u
+
+pub renumbered_left : (k n : Kernel) → n ≡ record k { store = n.store } → state_of n ≡ state_of k → (k.okay ≡ true → HasNoUnits k) → n.okay ≡ true → HasNoUnits n
+renumbered_left k n e q h o = ap (λ (s : State). list_all (λ c. not (is_short c)) s.hard) q ∙ h (sym (ap (λ (z : Kernel). z.okay) e) ∙ o)

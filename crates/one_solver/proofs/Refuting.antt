@@ -3,7 +3,7 @@ use Rattle.std.proofs.Common.{◌≡◌, ◌<◌, ℕ, Bool, true, false, List, 
 use Rattle.std.specs.List.{list_all, slice_get}
 use Rattle.sat_lits.specs.Truth.{clause_value}
 use Rattle.sat_lits.specs.Meaning.{Follows}
-use Rattle.sat_lits.specs.ClauseLaws.{clauses_value-map, clause_value-map}
+use Rattle.sat_lits.specs.ClauseLaws.{clause_value-map}
 use Rattle.sat_lits.specs.ListLaws.{all_mono}
 use Rattle.sat_lits.specs.declared.shared.Shared.{Shared}
 use Rattle.std.proofs.lemmas.Bool.{and_parts, true≢false}
@@ -11,7 +11,6 @@ use Rattle.rebuild_stack.specs.Values.{own_value}
 use Rattle.clause_store.specs.Store.{Held}
 use Rattle.propagate.specs.Reasons.{lit_value, held_value}
 use Rattle.state_laws.specs.State.{problem_of}
-use Rattle.state_laws.specs.Stands.{Stands}
 use Rattle.state_laws.specs.Conditions.{IsContradicted}
 use Rattle.state_laws.specs.Held.{own_or, own_of, own_clause}
 use Rattle.state_laws.specs.Kernel.{Kernel, state_of, Standing}

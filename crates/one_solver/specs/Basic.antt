@@ -1,5 +1,5 @@
 -- What one solver takes so far, and what it does not do yet.
-use Rattle.std.specs.Prelude.{◌≡◌, Bool, true, false, not, List, [], is_none}
+use Rattle.std.specs.Prelude.{◌≡◌, Bool, true, false, not, [], is_none}
 use Rattle.std.specs.List.{list_all}
 use Rattle.sat_lits.specs.Meaning.{Problem}
 use Rattle.sat_lits.specs.declared.formula.Item.{Item}

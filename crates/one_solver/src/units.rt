@@ -32,11 +32,8 @@ pub enum Short {
 }
 
 /// Fixes the literals of the clauses of one literal, hard or learned, until there is none, and
-/// refutes the state where a clause is left without literals. After want of memory some literals
-/// may be fixed.
-///
-/// One walk meets each clause once: what a fix makes shorter stands behind the others, under a new
-/// id.
+/// refutes the state where a clause is left without literals. Where a literal was fixed, the clauses
+/// have new ids then. After want of memory some literals may be fixed.
 pub fn fix_units(state: &mut PrivateState) -> Result<(), NoMemory>
     requires basic { IsBasic state.old }
     ensures basic { IsBasic state.new }
@@ -44,19 +41,38 @@ pub fn fix_units(state: &mut PrivateState) -> Result<(), NoMemory>
     ensures fixed { OnOk result (IsTrue state.new.okay → FixesUnits state.old state.new) }
     ensures left { OnOk result (IsTrue state.new.okay → HasNoUnits state.new) }
 {
+    if fix_each(state)? {
+        state.compact();
+    }
+    Ok(())
+}
+
+/// Fixes the literals, and tells whether there was one.
+///
+/// One walk meets each clause once: what a fix makes shorter stands behind the others, under a new
+/// id.
+fn fix_each(state: &mut PrivateState) -> Result<bool, NoMemory>
+    requires basic { IsBasic state.old }
+    ensures basic { IsBasic state.new }
+    ensures same { TookSame state.old state.new }
+    ensures fixed { OnOk result (IsTrue state.new.okay → FixesUnits state.old state.new) }
+    ensures left { OnOk result (IsTrue state.new.okay → HasNoUnits state.new) }
+{
+    let mut fixed = false;
     let mut at = state.clauses().first();
     'units: loop {
         state.stands();
         match find_short(state.clauses(), at) {
             Short::Empty => {
                 state.refute();
-                return Ok(());
+                return Ok(fixed);
             }
             Short::Single(id, lit) => {
                 state.fix(own_lit(state.maps(), lit))?;
+                fixed = true;
                 at = state.clauses().next(id);
             }
-            Short::End => return Ok(()),
+            Short::End => return Ok(fixed),
         }
     }
 }

@@ -1,4 +1,4 @@
-use Rattle.std.proofs.Common.{◌≡◌, Bool, Some, ap, sym, subst, ◌∙◌, option_map}
+use Rattle.std.proofs.Common.{Some, ap, sym, subst, ◌∙◌, option_map}
 use Rattle.clause_store.specs.Store.{Store, Held, IsKept, clause_at}
 use Rattle.one_solver.proofs.Forgetting.{forgot_one}
 use Rattle.one_solver.proofs.learned.forget.Goals as goal

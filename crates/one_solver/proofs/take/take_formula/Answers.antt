@@ -1,11 +1,8 @@
 use Rattle.std.proofs.Common.{◌≡◌, ℕ, ◌-◌, ◌≤◌, ◌++◌, true, List, length, take, drop, ap, sym, subst, ◌∙◌}
 use Rattle.std.specs.List.{list_all}
-use Rattle.sat_lits.specs.Meaning.{Problem}
-use Rattle.sat_lits.specs.Formulas.{Extends, names_known}
-use Rattle.sat_lits.specs.FollowLaws.{Extends_itself}
+use Rattle.sat_lits.specs.Formulas.{names_known}
 use Rattle.sat_lits.specs.declared.formula.Item.{Item}
-use Rattle.state_laws.specs.State.{State, outer_count, problem_of}
-use Rattle.state_laws.specs.Kernel.{state_of}
+use Rattle.state_laws.specs.State.{State, outer_count}
 use Rattle.one_solver.specs.Taken.{HasTaken}
 use Rattle.one_solver.proofs.Taking.{has_room, grown_basic, grown_count, rest_is, rest_passes, took_some, took_all, took_front}
 use Rattle.one_solver.proofs.take.take_formula.Goals as goal

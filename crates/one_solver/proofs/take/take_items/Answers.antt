@@ -1,4 +1,4 @@
-use Rattle.std.proofs.Common.{◌≡◌, true, List, Option, ap, sym, subst, ◌∙◌}
+use Rattle.std.proofs.Common.{◌≡◌, true, List, Option, ap, ◌∙◌}
 use Rattle.sat_lits.specs.ListLaws.{all_at}
 use Rattle.sat_lits.specs.Formulas.{names_known}
 use Rattle.state_laws.specs.declared.definition.Definition.{Definition}

@@ -1,6 +1,5 @@
-use Rattle.std.proofs.Common.{◌≡◌, ◌≤◌, ◌-◌, ◌+◌, ℕ, [], List, Option, length, option_map, IfSome, true, subst, sym, ap, ◌∙◌}
+use Rattle.std.proofs.Common.{◌≡◌, ◌≤◌, ◌-◌, ℕ, [], List, Option, length, option_map, IfSome, subst, sym, ap, ◌∙◌}
 use Rattle.sat_lits.specs.Conflicts.{own_count}
-use Rattle.sat_lits.specs.Meaning.{Problem}
 use Rattle.sat_lits.specs.Verdicts.{IsFailed}
 use Rattle.sat_lits.specs.declared.literal.Lit.{Lit}
 use Rattle.state_laws.specs.State.{problem_of}
