@@ -249,3 +249,16 @@ fixing_end first k h n l u = ⊎_elim (λ f. absurd (none (is_unit (same_lit l))
   where
     none : (p : List OwnLit → Bool) → ((c : List OwnLit) → p c ≡ true → is_short c ≡ true) → list_any p (state_of k).hard ≡ true → ⊥
     none p q f = all_or_any (λ c. not (is_short c)) p ⊥ (state_of k).hard n f (λ c x y. false≢true (sym (not-true _ x) ∙ q c y))
+
+-- new ids of clauses change nothing of this
+pub renumbered_basic : (k n : Kernel) → n ≡ record k { store = n.store } → IsBasic k → IsBasic n
+renumbered_basic k n e b = subst (λ (z : Kernel). IsBasic z) (sym e) (record { items = b.items; entries = b.entries; outer = b.outer; kept = b.kept })
+
+pub renumbered_same : (first k n : Kernel) → n ≡ record k { store = n.store } → TookSame first k → TookSame first n
+renumbered_same first k n e t = subst (λ (z : Kernel). TookSame first z) (sym e) (record { items = t.items; entries = t.entries; definitions = t.definitions; okay = t.okay })
+
+pub renumbered_fixed : (first k n : Kernel) → n ≡ record k { store = n.store } → (k.okay ≡ true → FixesUnits first k) → n.okay ≡ true → FixesUnits first n
+renumbered_fixed first k n e f o l u = ap (λ (z : Kernel). fixed_value (entry_of l.var.0 z.stack)) e ∙ f (sym (ap (λ (z : Kernel). z.okay) e) ∙ o) l u
+
+pub renumbered_left : (k n : Kernel) → n ≡ record k { store = n.store } → state_of n ≡ state_of k → (k.okay ≡ true → HasNoUnits k) → n.okay ≡ true → HasNoUnits n
+renumbered_left k n e q h o = ap (λ (s : State). list_all (λ c. not (is_short c)) s.hard) q ∙ h (sym (ap (λ (z : Kernel). z.okay) e) ∙ o)

@@ -23,3 +23,7 @@ forgot_more k m n f g = record {
   same = g.same ∙ ap (λ (z : Kernel). let x : Kernel = record z { store = n.store } in x) f.same;
   hard = g.hard ∙ f.hard;
 }
+
+-- and then the others have new ids
+pub forgot_renumbered : (k m n : Kernel) → HasForgotten k m → n ≡ record m { store = n.store } → state_of n ≡ state_of m → HasForgotten k n
+forgot_renumbered k m n f e q = forgot_more k m n f (record { same = e; hard = ap (λ (z : State). z.hard) q })

@@ -6,10 +6,9 @@ use Rattle.std.proofs.lemmas.List.{get_or-map, get_or-take, get_or_default, map-
 use Rattle.std.proofs.lemmas.List.Elements.{filter-append}
 use Rattle.std.specs.List.{list_all}
 use Rattle.sat_lits.specs.InLits.{is_distinct}
-use Rattle.sat_lits.specs.ListLaws.{all_mono, all_filter}
+use Rattle.sat_lits.specs.ListLaws.{all_mono, all_filter, filter_all}
 use Rattle.sat_lits.specs.declared.literal.ClauseId.{ClauseId}
 use Rattle.clause_store.specs.Store.{Store, Held, IsKept, clause_at, is_live, before, without, rising}
-use Rattle.state_laws.specs.HeldLaws.{filter_all}
 use Rattle.state_laws.specs.Kernel.{Kernel, IsLearnedId}
 use Rattle.state_laws.specs.KernelLearnLaws.{dropped}
 use Rattle.one_solver.specs.Learned.{is_long, is_long_at, HasForgotten, KeepsNewest}

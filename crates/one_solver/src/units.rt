@@ -1,5 +1,5 @@
-ghost use Rattle.std.specs.Prelude.{◌≡◌, Some, true, option_map, IfOk, OnOk, IsTrue};
-ghost use Rattle.clause_store.specs.Store.{Held, clause_at, is_live};
+ghost use Rattle.std.specs.Prelude.{◌≡◌, Some, IfSome, OnOk, IsTrue};
+ghost use Rattle.clause_store.specs.Store.{IsKept, Held, clause_at, is_live};
 ghost use Rattle.state_laws.specs.Held.{own_of};
 ghost use Rattle.one_solver.specs.Basic.{IsBasic};
 ghost use Rattle.one_solver.specs.Units.{IsLength, FindsShort, HasNoUnits, FixesUnits, TookSame};
@@ -20,9 +20,20 @@ pub enum Length {
     Longer,
 }
 
+/// What a walk over clauses meets first.
+#[derive(Clone, Copy, Debug, PartialEq, Eq)]
+pub enum Short {
+    /// A clause without literals.
+    Empty,
+    /// The clause of this id, which has this literal alone.
+    Single(ClauseId, InLit),
+    /// The end: each clause has more than one literal.
+    End,
+}
+
 /// Fixes the literals of the clauses of one literal, hard or learned, until there is none, and
-/// refutes the state where a clause is left without literals. After want of memory some literals
-/// may be fixed.
+/// refutes the state where a clause is left without literals. Where a literal was fixed, the clauses
+/// have new ids then. After want of memory some literals may be fixed.
 pub fn fix_units(state: &mut PrivateState) -> Result<(), NoMemory>
     requires basic { IsBasic state.old }
     ensures basic { IsBasic state.new }
@@ -30,36 +41,62 @@ pub fn fix_units(state: &mut PrivateState) -> Result<(), NoMemory>
     ensures fixed { OnOk result (IsTrue state.new.okay → FixesUnits state.old state.new) }
     ensures left { OnOk result (IsTrue state.new.okay → HasNoUnits state.new) }
 {
+    if fix_each(state)? {
+        state.compact();
+    }
+    Ok(())
+}
+
+/// Fixes the literals, and tells whether there was one.
+///
+/// One walk meets each clause once: what a fix makes shorter stands behind the others, under a new
+/// id.
+fn fix_each(state: &mut PrivateState) -> Result<bool, NoMemory>
+    requires basic { IsBasic state.old }
+    ensures basic { IsBasic state.new }
+    ensures same { TookSame state.old state.new }
+    ensures fixed { OnOk result (IsTrue state.new.okay → FixesUnits state.old state.new) }
+    ensures left { OnOk result (IsTrue state.new.okay → HasNoUnits state.new) }
+{
+    let mut fixed = false;
+    let mut at = state.clauses().first();
     'units: loop {
-        match find_short(state.clauses()) {
-            Length::Empty => {
+        match find_short(state.clauses(), at) {
+            Short::Empty => {
                 state.refute();
-                return Ok(());
+                return Ok(fixed);
             }
-            Length::Single(lit) => state.fix(own_lit(state.maps(), lit))?,
-            Length::Longer => return Ok(()),
+            Short::Single(id, lit) => {
+                state.fix(own_lit(state.maps(), lit))?;
+                fixed = true;
+                at = state.clauses().next(id);
+            }
+            Short::End => return Ok(fixed),
         }
     }
 }
 
-/// The length of the first clause of at most one literal, or `Longer` where each clause has more.
-fn find_short(store: &ClauseStore) -> Length
-    ensures { FindsShort store.now.held result }
+/// The first clause of at most one literal from that of a live id on.
+fn find_short(store: &ClauseStore, start: Option<ClauseId>) -> Short
+    requires { IfSome start (λ id. IsTrue (is_live store.now.held id.0)) }
+    ensures { FindsShort store.now start result }
 {
-    let mut at = store.first();
+    let mut at = start;
     'walk: while let Some(id) = at {
         match length_of(store, id) {
+            Length::Empty => return Short::Empty,
+            Length::Single(lit) => return Short::Single(id, lit),
             Length::Longer => at = store.after(id),
-            short => return short,
         }
     }
-    Length::Longer
+    Short::End
 }
 
 /// The length of the clause of a live id.
 fn length_of(store: &ClauseStore, id: ClauseId) -> Length
     requires { IsTrue (is_live store.now.held id.0) }
-    ensures { (clause : Held) → clause_at store.now.held id.0 ≡ Some clause → IsLength clause.lits result }
+    ensures value { (clause : Held) → clause_at store.now.held id.0 ≡ Some clause → IsLength clause.lits result }
+    ensures kept { IsKept store.now }
 {
     match store.lits(id) {
         [] => Length::Empty,

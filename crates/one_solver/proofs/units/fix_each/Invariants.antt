@@ -3,7 +3,7 @@ use Rattle.clause_store.specs.Store.{is_live, before}
 use Rattle.state_laws.specs.Kernel.{state_of}
 use Rattle.one_solver.specs.Fixing.{IsFixing}
 use Rattle.one_solver.specs.Units.{are_long}
-use Rattle.one_solver.proofs.units.fix_units.Given as goal
+use Rattle.one_solver.proofs.units.fix_each.Given as goal
 
 abbrev pub invariant-units : goal.invariant-units
 invariant-units l =
