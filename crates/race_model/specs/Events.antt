@@ -25,7 +25,7 @@ same_lit l m = l.var.0 == m.var.0 && beq l.negative m.negative
 abbrev pub is_known : List Shared → List Lit → Bool
 is_known log clause = list_any (λ e. pointwise same_lit e.clause clause) log
 
--- the entry that a solver adds to a log; it names all entries before it
+-- the entry of a clause that a solver gives, which names all entries of this log
 abbrev pub given_entry : List Shared → ℕ → List Lit → Shared
 given_entry log solver clause = record { solver = solver; after = length log; clause = clause }
 

@@ -9,9 +9,10 @@ use Rattle.race_model.specs.declared.event.Event.TheVariants.{Give, Take}
 use Rattle.race_model.specs.States.{State, taken_by, entries_at, entries_of, HasAllItems}
 use Rattle.race_model.specs.Events.{given_entry, IsRun, after_events}
 
--- a turn of a solver that took all items: to the entries that it had it takes more of the log,
--- and adds entries to the log whose clauses may be shared, follow from the formula with the
--- clauses of the entries that it then has, and stand at no earlier place
+-- a turn of a solver that took all items: to the entries that it had it takes more of the log, and
+-- it adds entries at the log's end that name those of the log found, whose clauses may be shared,
+-- follow from the formula with the clauses of the entries that it then has, and stand at no earlier
+-- place
 pub record IsTurn (f : Problem) (solver : ℕ) (had log has next : List Shared) : Type 0 where
   pub more : List Shared
   pub taken : has ≡ had ++ more
