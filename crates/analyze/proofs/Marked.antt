@@ -10,12 +10,11 @@ use Rattle.sat_lits.specs.declared.literal.InLit.{InLit}
 use Rattle.sat_lits.specs.declared.literal.Inner.{Inner}
 use Rattle.trail.specs.declared.trail.Step.{Step}
 use Rattle.trail.specs.Trail.{Assignment, IsKept, false_in, set_in, step_in, level_in, level_of, shaped}
-use Rattle.trail.specs.Laws.{steps_within}
+use Rattle.trail.specs.Laws.{steps_within, false_set}
 use Rattle.smallvec.specs.SmallVec.{SmallVec}
 use Rattle.analyze.specs.declared.walk.Walk.{Walk}
 use Rattle.analyze.specs.Marking.{Marking, is_marked, is_root, level_or}
 use Rattle.analyze.specs.Walks.{covered, marked, rest_of, Tracks, Stands, MarkedAll, may_mark}
-use Rattle.analyze.specs.TrailLaws.{false_set}
 use Rattle.analyze.proofs.Tracking.{with_mark, level_all, level_top, all_rest, any_rest, covered_seen, covered_root, covered_more, mark_present, mark_under, marked_small}
 use Rattle.analyze.proofs.Rests.{rest_parts, rest_length}
 

@@ -10,7 +10,7 @@ use Rattle.sat_lits.specs.declared.literal.Inner.{Inner}
 use Rattle.sat_lits.specs.declared.literal.ClauseId.{ClauseId}
 use Rattle.trail.specs.declared.trail.Step.{Step}
 use Rattle.trail.specs.Trail.{Assignment, IsKept, false_in, level_of, reason_in, lits_of, shaped, shaped_step}
-use Rattle.trail.specs.Laws.{levels_low}
+use Rattle.trail.specs.Laws.{levels_low, opposite_var, same_var, length-lits_of}
 use Rattle.clause_store.specs.Store.{Held, is_live}
 use Rattle.propagate.specs.Units.{false_clause, gives}
 use Rattle.propagate.specs.Reasons.{names, has_reason, reasoned}
@@ -18,10 +18,10 @@ use Rattle.analyze.specs.declared.walk.Walk.{Walk}
 use Rattle.analyze.specs.Falsity.{false_at, has_present}
 use Rattle.analyze.specs.Marking.{is_marked, IsFresh}
 use Rattle.analyze.specs.Walks.{covered, marked, rest_of, Tracks, Denies, Stands, IsStart, MarkedAll, AtWalk, IsTaken, AtEnd, may_mark}
-use Rattle.analyze.specs.TrailLaws.{opposite_var, same_var, only_level}
+use Rattle.analyze.specs.TrailLaws.{only_level}
 use Rattle.analyze.proofs.Entailing.{lits_at, names_live, names_lits, read_value, roots, conflict_denied, pass_denied, resolve_denied}
 use Rattle.analyze.proofs.Tracking.{pass_tracks, take_tracks, pending_level, pending_reason, marked_some, marked_mono, marked_nothing, end_follows}
-use Rattle.analyze.proofs.Rests.{length-lits_of, IsNext, next_step, rest_all, rest_none, Split, split}
+use Rattle.analyze.proofs.Rests.{IsNext, next_step, rest_all, rest_none, Split, split}
 
 -- the start: nothing is marked
 pub start_stands : (trail : Assignment) (walk : Walk) → IsKept trail → IsFresh trail.reserved walk.marks → walk.level ≡ level_of trail.steps → walk.left ≡ length trail.steps → walk.pending ≡ 0 → walk.others.items ≡ [] → IsStart trail walk

@@ -1,20 +1,17 @@
 -- The rest of a walk back over a trail.
-use Rattle.std.proofs.Common.{◌≡◌, ◌<◌, ◌≤◌, ◌+◌, ◌-◌, ℕ, suc, Bool, true, false, eqb, ◌||◌, List, [], ◌∷◌, ◌++◌, length, map, take, drop, get_or, Some, option_map, option_and_then, refl, sym, ap, subst, ◌∙◌, ⊎_elim, arith, eq-eqb}
+use Rattle.std.proofs.Common.{◌≡◌, ◌<◌, ◌≤◌, ◌+◌, ◌-◌, ℕ, suc, Bool, true, false, eqb, ◌||◌, List, [], ◌∷◌, ◌++◌, length, take, drop, get_or, Some, option_map, option_and_then, refl, sym, ap, subst, ◌∙◌, ⊎_elim, arith, eq-eqb}
 use Rattle.std.proofs.lemmas.Bool.{and_parts, eqb-true, both_ways, cases_lt, false_from_ne_true}
-use Rattle.std.proofs.lemmas.List.{take-append-drop, get_or_append_left, length-map, length-reverse, length-drop, drop_all}
+use Rattle.std.proofs.lemmas.List.{take-append-drop, get_or_append_left, length-drop, drop_all}
 use Rattle.std.proofs.Math.Seq.{get_or-append_seam}
 use Rattle.std.specs.List.{list_any, list_all}
 use Rattle.sat_lits.specs.declared.literal.InLit.{InLit}
 use Rattle.trail.specs.declared.trail.Step.{Step}
 use Rattle.trail.specs.Trail.{set_in, step_in, level_in, reason_in, lits_of, shaped, shaped_step}
-use Rattle.trail.specs.Laws.{step_new, lits_of-newest}
+use Rattle.trail.specs.Laws.{step_new, lits_of-newest, length-lits_of}
 use Rattle.clause_store.specs.Store.{Held}
 use Rattle.propagate.specs.Reasons.{has_reason, reasoned}
 use Rattle.analyze.specs.Walks.{rest_of}
 use Rattle.analyze.proofs.Tracking.{shaped_rest, all_rest, any_rest}
-
-pub length-lits_of : (t : List Step) → length (lits_of t) ≡ length t
-length-lits_of t = length-reverse (map (λ (s : Step). s.lit) t) ∙ length-map t (λ (s : Step). s.lit)
 
 -- what was walked, and the rest
 pub rest_parts : (t : List Step) (n : ℕ) → t ≡ take (length t - n) t ++ rest_of n t

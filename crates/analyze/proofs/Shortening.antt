@@ -10,7 +10,7 @@ use Rattle.sat_lits.specs.declared.literal.InLit.{InLit}
 use Rattle.sat_lits.specs.declared.literal.ClauseId.{ClauseId}
 use Rattle.trail.specs.declared.trail.Step.{Step}
 use Rattle.trail.specs.Trail.{Assignment, false_in, level_in, level_of, step_in, reason_in, shaped, shaped_step}
-use Rattle.trail.specs.Laws.{levels_low, level_up}
+use Rattle.trail.specs.Laws.{levels_low, level_up, opposite_var, filter_any, false_set}
 use Rattle.clause_store.specs.Store.{Held, clause_at, is_live}
 use Rattle.propagate.specs.Units.{gives}
 use Rattle.propagate.specs.Reasons.{names, passes, has_reason, reasoned, lit_value, held_value}
@@ -20,7 +20,7 @@ use Rattle.analyze.specs.Falsity.{false_at, false_by, false_under}
 use Rattle.analyze.specs.LearnedClauses.{ClauseFollows, IsLearned, has_each_once}
 use Rattle.analyze.specs.Marking.{is_marked, is_root, level_or, IsGreatest}
 use Rattle.analyze.specs.Walks.{AtEnd, is_settled, settles, is_implied}
-use Rattle.analyze.specs.TrailLaws.{opposite_var, filter_any, false_set, only_level}
+use Rattle.analyze.specs.TrailLaws.{only_level}
 use Rattle.analyze.proofs.Entailing.{names_live, same_lit_value, opposite_value, roots}
 use Rattle.analyze.proofs.Tracking.{level_all}
 use Rattle.analyze.proofs.Rests.{Split, split_parts}

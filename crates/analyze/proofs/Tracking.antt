@@ -9,13 +9,12 @@ use Rattle.sat_lits.specs.Truth.{clause_value}
 use Rattle.sat_lits.specs.declared.literal.InLit.{InLit}
 use Rattle.trail.specs.declared.trail.Step.{Step}
 use Rattle.trail.specs.Trail.{false_in, set_in, step_in, level_in, level_of, shaped, shaped_step}
-use Rattle.trail.specs.Laws.{step_new, level_up}
+use Rattle.trail.specs.Laws.{step_new, level_up, opposite_var, false_set, none_elsewhere, only_opposite}
 use Rattle.clause_store.specs.Store.{Held}
 use Rattle.propagate.specs.Reasons.{has_reason, lit_value}
 use Rattle.analyze.specs.Falsity.{false_under}
 use Rattle.analyze.specs.LearnedClauses.{ClauseFollows, has_each_once}
 use Rattle.analyze.specs.Walks.{denied, covered, marked, Tracks, Denies}
-use Rattle.analyze.specs.TrailLaws.{opposite_var, false_set, none_elsewhere, only_opposite}
 use Rattle.analyze.proofs.Entailing.{opposite_value}
 
 -- the marks with one variable more

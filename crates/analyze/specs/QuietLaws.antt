@@ -9,14 +9,14 @@ use Rattle.sat_lits.specs.declared.literal.InLit.{InLit}
 use Rattle.sat_lits.specs.declared.literal.ClauseId.{ClauseId}
 use Rattle.trail.specs.declared.trail.Step.{Step}
 use Rattle.trail.specs.Trail.{true_in, false_in, set_in, unset_in, level_of, shaped, shaped_step, back_to}
-use Rattle.trail.specs.Laws.{levels_low, back_nowhere, back_past}
+use Rattle.trail.specs.Laws.{levels_low, back_nowhere, back_past, same_var, same_lit_self, same_lit_eq, false_set, true_back, consistent, back_twice}
 use Rattle.clause_store.specs.Store.{Held, clause_at}
 use Rattle.propagate.specs.Units.{unit_by, false_clause, quiet_clause, all_quiet}
 use Rattle.propagate.specs.Reasons.{names, passes}
 use Rattle.analyze.specs.Falsity.{false_at, false_by, has_present}
 use Rattle.analyze.specs.LearnedClauses.{IsLearned, has_each_once, unit_by_first}
 use Rattle.analyze.specs.Quiet.{QuietBelow, is_within, is_new}
-use Rattle.analyze.specs.TrailLaws.{same_var, same_lit_self, same_lit_eq, false_set, by_false, at_false, false_back, true_back, gone_unset, consistent, back_twice}
+use Rattle.analyze.specs.TrailLaws.{by_false, at_false, false_back, gone_unset}
 
 -- a clause in which no variable stands twice has no literal twice
 pub once_distinct : (lits : List InLit) → has_each_once lits ≡ true → is_distinct lits ≡ true

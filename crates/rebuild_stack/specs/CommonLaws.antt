@@ -2,7 +2,6 @@
 use Rattle.std.proofs.Common.{◌≡◌, ℕ, ◌==◌, Bool, true, false, cond, not, ◌||◌, List, refl, sym, ap, ◌∙◌, eqb-true}
 use Rattle.std.proofs.lemmas.Bool.{true≢false}
 use Rattle.std.proofs.Math.Path.{fun_ext}
-use Rattle.std.specs.Bool.{beq}
 use Rattle.std.specs.List.{list_all}
 use Rattle.sat_lits.specs.Truth.{signed, with_value}
 use Rattle.sat_lits.specs.ListLaws.{all_mono}
@@ -28,13 +27,6 @@ or_comm false b = sym (or_false b)
 pub or_assoc : (a b c : Bool) → ((a || b) || c) ≡ (a || (b || c))
 or_assoc true b c = refl
 or_assoc false b c = refl
-
--- values that test equal are equal
-pub beq_same : (a b : Bool) → beq a b ≡ true → a ≡ b
-beq_same true true e = refl
-beq_same true false e = sym e
-beq_same false true e = e
-beq_same false false e = refl
 
 -- where each literal that passes one test passes another, clauses of the first pass the second
 pub each_mono : {L : Type 0} (p q : L → Bool) → ((l : L) → p l ≡ true → q l ≡ true) → (cs : List (List L)) → each_lit p cs ≡ true → each_lit q cs ≡ true

@@ -6,10 +6,11 @@ use Rattle.std.specs.Bool.{beq}
 use Rattle.std.specs.List.{list_any, list_all, cons_option}
 use Rattle.sat_lits.specs.Truth.{signed, clause_value, clauses_value}
 use Rattle.sat_lits.specs.declared.literal.OwnLit.{OwnLit}
+use Rattle.sat_lits.specs.ClauseLaws.{beq_true}
 use Rattle.rebuild_stack.specs.Values.{own_value, each_lit}
 use Rattle.rebuild_stack.specs.Roots.{turned, root_value, root_passes}
 use Rattle.rebuild_stack.specs.PutIn.{same_lit, add_lit, add_root, put_in, put_in_all, option_value, option_passes, is_clean, option_clean}
-use Rattle.rebuild_stack.specs.CommonLaws.{or_true, or_false, or_comm, or_assoc, beq_same}
+use Rattle.rebuild_stack.specs.CommonLaws.{or_true, or_false, or_comm, or_assoc}
 use Rattle.rebuild_stack.specs.RootLaws.{turned_value}
 use Rattle.rebuild_stack.specs.declared.entry.Root.{Root}
 use Rattle.rebuild_stack.specs.declared.entry.Root.TheVariants.{Known, Last, Lost}
@@ -18,7 +19,7 @@ use Rattle.rebuild_stack.specs.declared.entry.Root.TheVariants.{Known, Last, Los
 pub same_lit_value : (w : ℕ → Bool) (k l : OwnLit) → same_lit k l ≡ true → own_value w k ≡ own_value w l
 same_lit_value w k l e =
     let p : ((k.var.0 == l.var.0) ≡ true) × (beq k.negative l.negative ≡ true) = and_parts _ _ e in
-    ap₂ signed (beq_same _ _ p.1) (ap w (eqb-true _ _ p.0))
+    ap₂ signed (beq_true _ _ p.1) (ap w (eqb-true _ _ p.0))
 
 or_again : (a c : Bool) → (a || c) ≡ (a || (a || c))
 or_again true c = refl

@@ -3,12 +3,12 @@ use Rattle.std.proofs.Common.{◌≡◌, ℕ, ◌==◌, Bool, true, false, not, 
 use Rattle.std.proofs.lemmas.Bool.{and_parts, or_parts}
 use Rattle.std.specs.List.{list_any, list_all}
 use Rattle.sat_lits.specs.Truth.{signed, clauses_value}
-use Rattle.sat_lits.specs.ClauseLaws.{with_value_same, with_value_other}
+use Rattle.sat_lits.specs.ClauseLaws.{with_value_same, with_value_other, beq_true}
 use Rattle.sat_lits.specs.declared.literal.Own.{Own}
 use Rattle.sat_lits.specs.declared.literal.OwnLit.{OwnLit}
 use Rattle.rebuild_stack.specs.Values.{own_value}
 use Rattle.rebuild_stack.specs.Entries.{undo, rebuild, entry_value, names}
-use Rattle.rebuild_stack.specs.CommonLaws.{beq_same, signed_true, with_value_kept}
+use Rattle.rebuild_stack.specs.CommonLaws.{signed_true, with_value_kept}
 use Rattle.rebuild_stack.specs.declared.entry.Entry.{Entry}
 use Rattle.rebuild_stack.specs.declared.entry.Entry.TheVariants.{Fix, Equal, Gone}
 
@@ -53,7 +53,7 @@ undo_false_block v cs w h = with_value_same w v.0 _ ∙ ap (λ b. signed (not b)
 -- an entry that holds of the values changes nothing
 pub undo_holding : (e : Entry) (w : ℕ → Bool) → entry_value w e ≡ true → undo e w ≡ w
 undo_holding (Fix l) w h = with_value_kept w l.var.0 _ (sym (signed_true l.negative (w l.var.0) h))
-undo_holding (Equal v l) w h = with_value_kept w v.0 _ (sym (beq_same (w v.0) (own_value w l) h))
+undo_holding (Equal v l) w h = with_value_kept w v.0 _ (sym (beq_true (w v.0) (own_value w l) h))
 undo_holding (Gone v cs) w h = undo_true_block v cs w h
 
 -- values that all entries hold of stay

@@ -4,12 +4,12 @@ use Rattle.std.proofs.lemmas.Bool.{and_parts, or_parts, true≢false}
 use Rattle.std.specs.Bool.{beq}
 use Rattle.std.specs.List.{list_any, list_all}
 use Rattle.sat_lits.specs.Truth.{signed, clauses_value}
-use Rattle.sat_lits.specs.ClauseLaws.{signed-signed}
+use Rattle.sat_lits.specs.ClauseLaws.{signed-signed, beq_true}
 use Rattle.sat_lits.specs.declared.literal.OwnLit.{OwnLit}
 use Rattle.rebuild_stack.specs.Values.{own_value}
 use Rattle.rebuild_stack.specs.Entries.{rebuild, entry_value, names, is_gone}
 use Rattle.rebuild_stack.specs.Roots.{turned, root, is_lost, root_value}
-use Rattle.rebuild_stack.specs.CommonLaws.{cond_at, beq_same, signed_true}
+use Rattle.rebuild_stack.specs.CommonLaws.{cond_at, signed_true}
 use Rattle.rebuild_stack.specs.declared.entry.Entry.{Entry}
 use Rattle.rebuild_stack.specs.declared.entry.Entry.TheVariants.{Fix, Equal, Gone}
 use Rattle.rebuild_stack.specs.declared.entry.Root.{Root}
@@ -50,7 +50,7 @@ holds_root (Fix k ∷ newer) l w e h =
 holds_root (Equal v k ∷ newer) l w e h =
     let p : (beq (w v.0) (own_value w k) ≡ true) × (list_all (entry_value w) newer ≡ true) = and_parts _ _ e in
     pick_one w (l.var.0 == v.0) (own_value w l) (root newer (turned l.negative k)) (root newer l)
-    (λ b g. ap (signed l.negative) (ap w (eqb-true _ _ b) ∙ beq_same _ _ p.0) ∙ (sym (turned_value w l.negative k) ∙ holds_root newer (turned l.negative k) w p.1 g)) (holds_root newer l w p.1) h
+    (λ b g. ap (signed l.negative) (ap w (eqb-true _ _ b) ∙ beq_true _ _ p.0) ∙ (sym (turned_value w l.negative k) ∙ holds_root newer (turned l.negative k) w p.1 g)) (holds_root newer l w p.1) h
 holds_root (Gone v cs ∷ newer) l w e h =
     let p : (clauses_value (own_value w) cs ≡ true) × (list_all (entry_value w) newer ≡ true) = and_parts _ _ e in
     pick_one w (l.var.0 == v.0) (own_value w l) (Lost v) (root newer l) (λ b g. absurd (true≢false g)) (holds_root newer l w p.1) h

@@ -9,8 +9,7 @@ use Rattle.sat_lits.specs.ListLaws.{any_mono, any_filter, all_filter, both_all, 
 use Rattle.sat_lits.specs.declared.literal.InLit.{InLit}
 use Rattle.trail.specs.declared.trail.Step.{Step}
 use Rattle.trail.specs.Trail.{true_in, level_of, decided, shaped, back_to}
-use Rattle.trail.specs.Laws.{levels_low}
-use Rattle.analyze.specs.TrailLaws.{same_lit_self}
+use Rattle.trail.specs.Laws.{levels_low, same_lit_self}
 use Rattle.search.specs.Assumed.{assumption_at, true_by, is_assumed, HasAssumed}
 
 -- a literal that is true by a level is true by a higher one

@@ -10,11 +10,12 @@ use Rattle.sat_lits.specs.declared.literal.InLit.{InLit}
 use Rattle.sat_lits.specs.declared.literal.ClauseId.{ClauseId}
 use Rattle.trail.specs.declared.trail.Step.{Step}
 use Rattle.trail.specs.Trail.{false_in, level_of}
+use Rattle.trail.specs.Laws.{opposite_var}
 use Rattle.clause_store.specs.Store.{Held, Store, clause_at, is_live, rising, IsKept, hard_of, learned_of}
 use Rattle.propagate.specs.Reasons.{names, passes}
 use Rattle.analyze.specs.Falsity.{false_by}
 use Rattle.analyze.specs.LearnedClauses.{IsLearned}
-use Rattle.analyze.specs.TrailLaws.{opposite_var, by_false, at_false}
+use Rattle.analyze.specs.TrailLaws.{by_false, at_false}
 use Rattle.search.specs.InUse.{is_among, lits_among, clauses_among, steps_among}
 
 -- a clause that is named is live

@@ -11,10 +11,10 @@ use Rattle.sat_lits.specs.ListLaws.{all_or_any, all_mono, all_at}
 use Rattle.sat_lits.specs.declared.literal.InLit.{InLit}
 use Rattle.trail.specs.declared.trail.Step.{Step}
 use Rattle.trail.specs.Trail.{level_of, decided}
+use Rattle.trail.specs.Laws.{same_lit_eq}
 use Rattle.clause_store.specs.Store.{Held}
 use Rattle.propagate.specs.Reasons.{lit_value, held_value}
 use Rattle.analyze.specs.FinalSets.{IsFinalSet, decisions_value, has_decision}
-use Rattle.analyze.specs.TrailLaws.{same_lit_eq}
 use Rattle.search.specs.Assumed.{HasAssumed, assumption_at, is_assumed}
 use Rattle.search.specs.Answers.{AreFailed}
 

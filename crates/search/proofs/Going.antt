@@ -8,14 +8,13 @@ use Rattle.sat_lits.specs.declared.literal.InLit.{InLit}
 use Rattle.sat_lits.specs.declared.literal.ClauseId.{ClauseId}
 use Rattle.trail.specs.declared.trail.Step.{Step}
 use Rattle.trail.specs.Trail.{shaped, shaped_step, unset_in, false_in, level_of, decided}
-use Rattle.trail.specs.Laws.{shaped_step-assign}
+use Rattle.trail.specs.Laws.{shaped_step-assign, same_lit_eq}
 use Rattle.clause_store.specs.Store.{Held}
 use Rattle.propagate.specs.Units.{gives}
 use Rattle.propagate.specs.Reasons.{has_reason, unit_reason, derives, Extends}
 use Rattle.propagate.specs.Laws.{named_all, unit_named, unit_has_reason, derived_level}
 use Rattle.analyze.specs.Quiet.{QuietBelow}
 use Rattle.analyze.specs.QuietLaws.{assign_keeps}
-use Rattle.analyze.specs.TrailLaws.{same_lit_eq}
 use Rattle.search_laws.specs.TrailNumber.{trail_number}
 use Rattle.search_laws.specs.NumberLaws.{more_raises}
 use Rattle.search_laws.specs.NumberLaws.{bounded_more}

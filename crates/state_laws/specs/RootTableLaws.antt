@@ -133,7 +133,8 @@ root_gone (e ∷ newer) l v cs h = go (names l.var.0 e) refl (root_gone newer l 
 abbrev pub AreOnce : (ℕ → Bool) → List Entry → Type 0
 AreOnce active s = (k : ℕ) → times_named k s + cond {A = ℕ} (active k) 1 0 ≤ 1
 
-once_newer : (active : ℕ → Bool) (e : Entry) (newer : List Entry) → AreOnce active (e ∷ newer) → AreOnce active newer
+-- without the oldest entry that is so too
+pub once_newer : (active : ℕ → Bool) (e : Entry) (newer : List Entry) → AreOnce active (e ∷ newer) → AreOnce active newer
 once_newer active e newer h k = let c : cond {A = ℕ} (names k e) 1 0 + times_named k newer + cond {A = ℕ} (active k) 1 0 ≤ 1 = h k in omega arith
 
 -- a variable that is active or named by a newer entry is not named by this one
@@ -192,7 +193,8 @@ root_replaced active (e ∷ newer) l v k c o h = go (names l.var.0 e) refl (λ q
         ∙ (r q
         ∙ sym (past_this (other_is_placed active newer l.var.0 v k p.1 q)))
 
-depth_at_most : (k : ℕ) (s : List Entry) → depth k s ≤ length s
+-- no depth is greater than the number of entries
+pub depth_at_most : (k : ℕ) (s : List Entry) → depth k s ≤ length s
 depth_at_most k [] = omega arith
 depth_at_most k (e ∷ newer) = go (names k e) (depth_at_most k newer)
   where

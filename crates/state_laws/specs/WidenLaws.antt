@@ -10,9 +10,9 @@ use Rattle.sat_lits.specs.Meaning.{satisfies, satisfies_clause}
 use Rattle.sat_lits.specs.declared.literal.Own.{Own}
 use Rattle.sat_lits.specs.declared.literal.OwnLit.{OwnLit}
 use Rattle.sat_lits.specs.declared.shared.Shared.{Shared}
+use Rattle.sat_lits.specs.ClauseLaws.{beq_true}
 use Rattle.rebuild_stack.specs.Values.{values_of, own_value}
 use Rattle.rebuild_stack.specs.Entries.{entry_value}
-use Rattle.rebuild_stack.specs.CommonLaws.{beq_same}
 use Rattle.rebuild_stack.specs.declared.entry.Entry.TheVariants.{Fix, Equal, Gone}
 use Rattle.state_laws.specs.declared.definition.Definition.{Definition}
 use Rattle.state_laws.specs.declared.definition.Definition.TheVariants.{Xor, And}
@@ -113,7 +113,7 @@ widened_confirm s h values f =
       hard = h.sound.hard w a;
       learned = h.sound.learned w a;
       fixed = λ at l e. all_get (entry_value w) s.stack at (Fix l) e (h.sound.stack w a);
-      replaced = λ at v l e. beq_same (w v.0) (own_value w l) (all_get (entry_value w) s.stack at (Equal v l) e (h.sound.stack w a));
+      replaced = λ at v l e. beq_true (w v.0) (own_value w l) (all_get (entry_value w) s.stack at (Equal v l) e (h.sound.stack w a));
       gone = λ at v cs e. all_get (entry_value w) s.stack at (Gone v cs) e (h.sound.stack w a);
       okay = h.sound.okay w a;
     }

@@ -7,12 +7,12 @@ use Rattle.sat_lits.specs.declared.literal.InLit.{InLit}
 use Rattle.sat_lits.specs.declared.literal.ClauseId.{ClauseId}
 use Rattle.trail.specs.declared.trail.Step.{Step}
 use Rattle.trail.specs.Trail.{false_in, level_of, shaped}
+use Rattle.trail.specs.Laws.{opposite_var, false_set}
 use Rattle.clause_store.specs.Store.{Held}
 use Rattle.propagate.specs.Units.{false_clause}
 use Rattle.propagate.specs.Reasons.{names}
 use Rattle.analyze.specs.Falsity.{false_at, has_present}
 use Rattle.analyze.specs.Marking.{level_or}
-use Rattle.analyze.specs.TrailLaws.{opposite_var, false_set}
 use Rattle.analyze.proofs.Entailing.{lits_at, names_lits, lits_names}
 use Rattle.analyze.proofs.Tracking.{level_all}
 use Rattle.analyze.proofs.Marked.{level_set}

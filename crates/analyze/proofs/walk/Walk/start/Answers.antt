@@ -1,7 +1,7 @@
 use Rattle.std.proofs.Common.{◌∙◌, ap, subst, refl, length}
 use Rattle.analyze.specs.Marking.{IsFresh}
 use Rattle.analyze.proofs.Resolving.{start_stands}
-use Rattle.analyze.proofs.Rests.{length-lits_of}
+use Rattle.trail.specs.Laws.{length-lits_of}
 use Rattle.analyze.proofs.walk.Walk.start.Goals as goal
 
 pub returns : goal.returns
