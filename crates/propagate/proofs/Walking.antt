@@ -1,12 +1,14 @@
 -- All clauses of a store, one after another.
 use Rattle.std.proofs.Common.{◌≡◌, ◌-◌, ℕ, Bool, true, false, cond, eqb, List, [], ◌∷◌, map, Option, Some, None, option_map, option_to_list, refl, ap₂, sym, ap, ◌∙◌}
-use Rattle.std.proofs.lemmas.Bool.{eqb-true}
+use Rattle.std.specs.Option.{is_some}
+use Rattle.std.proofs.lemmas.Bool.{false≢true, eqb-true}
 use Rattle.std.proofs.lemmas.Option.{same_Some, none-some}
 use Rattle.sat_lits.specs.declared.literal.InLit.{InLit}
 use Rattle.sat_lits.specs.declared.literal.ClauseId.{ClauseId}
-use Rattle.clause_store.specs.Store.{Held, clause_at, before}
+use Rattle.clause_store.specs.Store.{Held, Store, clause_at, is_live, before}
 use Rattle.clause_store.specs.Laws.{before-none}
 use Rattle.propagate.specs.declared.watches.Taken.{Taken}
+use Rattle.propagate.specs.Taken.{lits_found}
 use Rattle.propagate.specs.Watching.{taken_as}
 use Rattle.propagate.specs.Reasons.{names, passes}
 
@@ -34,6 +36,12 @@ taken_found (h ∷ rest) n lits e = go (eqb h.id n) refl e (λ (f : option_map (
     go true g f more = ap₂ one (sym (eqb-true _ _ g)) (sym (same_Some h.lits lits f))
     go false g f more = more f
 
+found_lits : (o : Option Held) → is_some o ≡ true → option_map (λ h. h.lits) o ≡ Some (lits_found o)
+found_lits None e = absurd (false≢true e)
+found_lits (Some h) e = refl
+
 -- a live clause is taken over with its id and its literals
-pub taken_one : (held : List Held) (id : ClauseId) (got lits : List InLit) → got ≡ lits → option_map (λ h. h.lits) (clause_at held id.0) ≡ Some lits → record { id = id; lits = got } ∷ [] ≡ map taken_as (option_to_list (clause_at held id.0))
-taken_one held id got lits g e = ap (one id.0) g ∙ taken_found held id.0 lits e
+pub taken_one : (then now : Store) (id : ClauseId) → then ≡ now → is_live now.held id.0 ≡ true → record { id = id; lits = lits_found (clause_at then.held id.0) } ∷ [] ≡ map taken_as (option_to_list (clause_at now.held id.0))
+taken_one then now id e live =
+    ap (λ (s : Store). one id.0 (lits_found (clause_at s.held id.0))) e
+    ∙ taken_found now.held id.0 (lits_found (clause_at now.held id.0)) (found_lits (clause_at now.held id.0) live)

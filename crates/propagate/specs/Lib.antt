@@ -1,3 +1,5 @@
+pub mod Taken
+pub mod Taking
 pub mod Units
 pub mod Reasons
 pub mod Watching

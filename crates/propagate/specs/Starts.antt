@@ -25,6 +25,7 @@ pub record ArePair (held : List Held) (id : ClauseId) (old new : List Step) (one
   pub able : false_in old one ≡ false
   pub good : (false_in old two ≡ false) ⊎ (names held id (λ c. list_any (true_in new) c) ≡ true)
 
+-- what each choice of two literals says
 abbrev pub ChoosesRight : List Held → ClauseId → List Step → List Step → Choice → Type 0
 ChoosesRight held id old new choice.Lost = is_live held id.0 ≡ false
 ChoosesRight held id old new choice.NoneOpen = (new ≡ old) × (names held id (false_clause old) ≡ true)
@@ -43,6 +44,7 @@ pub record IsStarted (taken : List Taken) (n : ℕ) (from to : List Step) (old n
 abbrev pub IsSeen : List Held → List Taken → List Step → ℕ → Type 0
 IsSeen held taken steps n = (list_any (true_in steps) (clause_of taken (2 * n)) ≡ true) ⊎ (is_live held (id_of taken (2 * n)).0 ≡ false)
 
+-- what each answer of a look at one whole clause says
 abbrev pub StartsRight : List Held → List Taken → ℕ → List Step → List Step → Table → Table → Start → Type 0
 StartsRight held taken n from to old new start.Stays = (new ≡ old) × IsSeen held taken to n
 StartsRight held taken n from to old new (start.Watched two) = IsStarted taken n from to old new two
@@ -53,11 +55,12 @@ abbrev pub LooksRight : List Held → List Taken → List Step → List Bool →
 LooksRight held taken steps whole None = (n : ℕ) → n < length taken → slice_index_or whole n true ≡ true → IsSeen held taken steps n
 LooksRight held taken steps whole (Some id) = names held id (false_clause steps) ≡ true
 
--- each clause that is not watched stands in a list
+-- the nth clause stands in a list
 pub record IsListed (fresh : List ℕ) (n : ℕ) : Type 0 where
   pub at : ℕ
   pub below : at < length fresh
   pub is : slice_index fresh at ≡ n
 
+-- each clause that is looked at whole does, and the list names clauses alone
 abbrev pub AreListed : List Taken → List Bool → List ℕ → Type 0
 AreListed taken whole fresh = ((n : ℕ) → n < length taken → slice_index_or whole n true ≡ true → IsListed fresh n) × ((i : ℕ) → i < length fresh → slice_index fresh i < length taken)

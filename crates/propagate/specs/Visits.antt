@@ -11,6 +11,7 @@ use Rattle.propagate.specs.Units.{false_clause}
 use Rattle.propagate.specs.Reasons.{names}
 use Rattle.propagate.specs.Watched.{open_but}
 
+-- what each answer says of the trail before and after it
 abbrev pub VisitsRight : List Held → ClauseId → InLit → List Step → List Step → Visit → Type 0
 VisitsRight held id other old new Kept = true_in new other ≡ true
 VisitsRight held id other old new (Moved l) = (new ≡ old) × (names held id (λ lits. open_but old other lits l) ≡ true)

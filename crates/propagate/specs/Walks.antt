@@ -25,6 +25,7 @@ Keeps steps old new = (e : ℕ) → (watch_at new e ≡ watch_at old e) ⊎ (fal
 abbrev pub AllSettled : List Held → List Taken → List Step → List Bool → List InLit → InLit → Bool → Type 0
 AllSettled held taken steps whole watched lit missed = (e : ℕ) → e < 2 * length taken → is_whole whole e ≡ false → watch_at watched e ≡ lit → IsSettled held taken steps missed e
 
+-- what each answer of a walk over the chain of one literal says
 abbrev pub WalksRight : List Held → List Taken → List Step → List Bool → List InLit → InLit → Walk → Type 0
 WalksRight held taken steps whole watched lit Done = AllSettled held taken steps whole watched lit false
 WalksRight held taken steps whole watched lit Missed = AllSettled held taken steps whole watched lit true
@@ -34,6 +35,7 @@ WalksRight held taken steps whole watched lit (Conflict id) = names held id (fal
 abbrev pub AllGood : List Held → List Taken → List InLit → List Step → List Bool → List InLit → Bool → Type 0
 AllGood held taken front steps whole watched missed = (e : ℕ) → e < 2 * length taken → is_whole whole e ≡ false → list_any (λ f. opposite f (watch_at watched e)) front ≡ true → IsSettled held taken steps missed e
 
+-- what each answer of the walks over the chains of all literals of a trail says
 abbrev pub PassRight : List Held → List Taken → List Step → List Bool → List InLit → Walk → Type 0
 PassRight held taken steps whole watched Done = AllGood held taken (lits_of steps) steps whole watched false
 PassRight held taken steps whole watched Missed = AllGood held taken (lits_of steps) steps whole watched true

@@ -1,11 +1,11 @@
 -- Two watched literals per clause. Entry 2n and entry 2n+1 are those of the nth clause that was taken over.
-use Rattle.trail.specs.declared.trail.Step.{Step}
-use Rattle.trail.specs.Trail.{false_in}
-use Rattle.std.specs.Prelude.{not, ◌&&◌, ◌++◌, slice_set, slice_index, ◌⊎◌, ◌≡◌, ◌<◌, ◌+◌, ◌-◌, ◌*◌, ◌/◌, ◌%◌, ◌==◌, ℕ, Bool, true, false, if◌then◌else◌, List, [], ◌∷◌, length, Option, Some, None, slice_index_or}
+use Rattle.std.specs.Prelude.{◌≡◌, ◌<◌, ◌+◌, ◌-◌, ◌*◌, ◌/◌, ◌%◌, ◌==◌, ◌⊎◌, ℕ, Bool, true, false, not, ◌&&◌, if◌then◌else◌, List, [], ◌∷◌, ◌++◌, length, slice_index, slice_index_or, slice_set, Option, Some, None}
 use Rattle.std.specs.List.{list_any}
 use Rattle.sat_lits.specs.InLits.{same_lit}
 use Rattle.sat_lits.specs.declared.literal.InLit.{InLit}
 use Rattle.sat_lits.specs.declared.literal.ClauseId.{ClauseId}
+use Rattle.trail.specs.declared.trail.Step.{Step}
+use Rattle.trail.specs.Trail.{false_in}
 use Rattle.propagate.specs.declared.watches.Taken.{Taken}
 use Rattle.propagate.specs.Watching.{taken_at}
 use Rattle.propagate.specs.Chains.{AreChains}
@@ -15,6 +15,7 @@ abbrev pub Has : ℕ → List ℕ → Type 0
 Has e [] = ⊥
 Has e (d ∷ ds) = (d ≡ e) ⊎ Has e ds
 
+-- what is read where no literal is watched, and where no clause was taken over
 abbrev pub no_lit : InLit
 no_lit = record { var = record { 0 = 0 }; negative = false }
 
@@ -29,6 +30,7 @@ code_of l = 2 * l.var.0 + (if l.negative then 1 else 0)
 abbrev pub watch_at : List InLit → ℕ → InLit
 watch_at watched e = slice_index_or watched e no_lit
 
+-- the number of that literal, which is the entry's key
 abbrev pub key_in : List InLit → ℕ → ℕ
 key_in watched e = code_of (watch_at watched e)
 
@@ -36,6 +38,7 @@ key_in watched e = code_of (watch_at watched e)
 abbrev pub other_of : ℕ → ℕ
 other_of e = if e % 2 == 0 then e + 1 else e - 1
 
+-- the literals of a clause that was taken over, if there is one
 abbrev pub lits_in : Option Taken → List InLit
 lits_in None = []
 lits_in (Some t) = t.lits
@@ -71,6 +74,7 @@ pub record EndsWith (before : ℕ) (front : List ℕ) : Type 0 where
   pub parts : front ≡ init ++ last ∷ []
   pub word : before ≡ last + 1
 
+-- or no front comes before it
 abbrev pub EndsAt : ℕ → List ℕ → Type 0
 EndsAt before front = ((before ≡ 0) × (front ≡ [])) ⊎ EndsWith before front
 

@@ -289,7 +289,7 @@ impl Table {
         ensures reserved { trail.new.reserved ≡ trail.old.reserved }
         ensures right { StartsRight store.now.held taken.now n trail.old.steps trail.new.steps self.old self.new result }
     {
-        let id = taken[n].id;
+        let id = taken[n].id();
         match choose(store, trail, id) {
             Choice::Lost => Start::Stays,
             Choice::Single => Start::Stays,
@@ -515,7 +515,7 @@ fn id_at(taken: &[Taken], place: usize) -> ClauseId
     requires { place < 2 * length taken.now }
     ensures { result ≡ id_of taken.now place }
 {
-    taken[place / 2].id
+    taken[place / 2].id()
 }
 
 /// The first literal that is not false and not a given one.

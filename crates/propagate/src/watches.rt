@@ -6,9 +6,11 @@ ghost use Rattle.propagate.specs.Watching.{HasTaken, IsDone, IsFront, taken_as, 
 
 use crate::table::{Table, Walk, mark_all, reserve_all};
 use clause_store::ClauseStore;
-use sat_lits::{ClauseId, InLit, List, NoMemory};
+use sat_lits::{ClauseId, InLit, NoMemory};
 use std::alloc::Global;
+use std::fmt;
 use std::marker::Model;
+use std::snapshot::Snapshot;
 use trail::Trail;
 
 /// More clauses are not taken over, since each has two entries that are numbered by words of 32 bits.
@@ -23,11 +25,50 @@ pub enum Found {
     Conflict(ClauseId),
 }
 
-/// A clause as it was when it was taken over.
-#[derive(Debug, Drop)]
+/// A clause as it was when it was taken over. Contracts see its literals too, but its id alone takes
+/// memory.
+#[derive(Drop)]
 pub struct Taken {
-    pub id: ClauseId,
-    pub lits: List<InLit>,
+    id: ClauseId,
+    // The store from which it was taken over, as it was then. It takes no memory.
+    from: Snapshot<ClauseStore>,
+}
+
+impl Model for Taken {
+    ghost use Rattle.propagate.specs.Taken.{TakenClause};
+
+    ghost Value = { TakenClause };
+
+    ghost use Rattle.propagate.specs.Taking.{taken_of};
+
+    ghost view = { taken_of };
+}
+
+impl Taken {
+    /// The clause of a live id, taken over from a store.
+    pub(crate) fn of(store: &ClauseStore, id: ClauseId) -> Taken
+        requires { IsTrue (is_live store.now.held id.0) }
+        ensures { result ∷ [] ≡ map taken_as (option_to_list (clause_at store.now.held id.0)) }
+    {
+        Taken {
+            id,
+            from: Snapshot::of(store),
+        }
+    }
+
+    /// The id under which it was taken over.
+    pub(crate) fn id(&self) -> ClauseId
+        ensures { result ≡ self.now.id }
+    {
+        self.id
+    }
+}
+
+impl fmt::Debug for Taken {
+    fn fmt<W: fmt::Write>(&self, f: &mut fmt::Formatter<W>) -> fmt::Result {
+        let id = self.id;
+        write!(f, "{id:?}")
+    }
 }
 
 /// Finds the literals that the clauses of a store give under a trail.
@@ -124,7 +165,7 @@ impl Watches {
         if self.taken.len() >= MOST_CLAUSES {
             return Err(NoMemory);
         }
-        let clause = take_over(*self.done.allocator(), store, id)?;
+        let clause = Taken::of(store, id);
         reserve_all(&mut self.taken, &mut self.table, &mut self.fresh)?;
         let place = self.taken.len();
         self.taken.push_reserved(clause);
@@ -212,19 +253,8 @@ fn take_all_over(alloc: Global, store: &ClauseStore) -> Result<Vec<Taken>, NoMem
     let mut taken = Vec::new(alloc);
     let mut next = store.first();
     'walk: while let Some(id) = next {
-        taken.push(take_over(alloc, store, id)?)?;
+        taken.push(Taken::of(store, id))?;
         next = store.after(id);
     }
     Ok(taken)
-}
-
-/// The clause of a live id.
-fn take_over(alloc: Global, store: &ClauseStore, id: ClauseId) -> Result<Taken, NoMemory>
-    requires { IsTrue (is_live store.now.held id.0) }
-    ensures { IfOk result (λ taken. taken ∷ [] ≡ map taken_as (option_to_list (clause_at store.now.held id.0))) }
-{
-    Ok(Taken {
-        id,
-        lits: List::from_slice(alloc, store.lits(id))?,
-    })
 }
