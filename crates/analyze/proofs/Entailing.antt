@@ -36,14 +36,6 @@ opposite_value w k l e = signed_opposite (λ (m : InLit). m.var.0) (λ (m : InLi
 abbrev pub lits_at : List Held → ClauseId → Option (List InLit)
 lits_at held id = option_map (λ h. h.lits) (clause_at held id.0)
 
--- an id that names a clause is live
-pub names_live : (held : List Held) (id : ClauseId) (test : List InLit → Bool) → names held id test ≡ true → is_live held id.0 ≡ true
-names_live held id test e = go (clause_at held id.0) e
-  where
-    go : (o : Option Held) → passes test o ≡ true → is_some o ≡ true
-    go None f = absurd (false≢true f)
-    go (Some h) f = refl
-
 -- the clause that is read passes the test
 pub names_lits : (held : List Held) (id : ClauseId) (test : List InLit → Bool) (c : List InLit) → lits_at held id ≡ Some c → names held id test ≡ true → test c ≡ true
 names_lits held id test c e n = go (clause_at held id.0) e n

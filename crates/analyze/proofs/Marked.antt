@@ -14,7 +14,7 @@ use Rattle.trail.specs.Laws.{steps_within, false_set}
 use Rattle.smallvec.specs.SmallVec.{SmallVec}
 use Rattle.analyze.specs.declared.walk.Walk.{Walk}
 use Rattle.analyze.specs.Marking.{Marking, is_marked, is_root, level_or}
-use Rattle.analyze.specs.Walks.{covered, marked, rest_of, Tracks, Stands, MarkedAll, may_mark}
+use Rattle.analyze.specs.Walks.{covered, marked, rest_of, Tracks, IsWalkOn, MarkedAll, may_mark}
 use Rattle.analyze.proofs.Tracking.{with_mark, level_all, level_top, all_rest, any_rest, covered_seen, covered_root, covered_more, mark_present, mark_under, marked_small}
 use Rattle.analyze.proofs.Rests.{rest_parts, rest_length}
 
@@ -66,7 +66,7 @@ one_covered : (t : List Step) (n : ℕ) (seen : ℕ → Bool) (l : InLit) → sh
 one_covered t n seen l e s = and_from _ _ (implied_or _ _ (λ f. settled_covered t n seen l e s f)) refl
 
 -- a literal that was marked before, or is of level 0
-pub marked_before : (trail : Assignment) (l : InLit) (walk : Walk) (marks : Marking) → Stands trail walk → marks ≡ walk.marks → (is_marked walk.marks l.var.0 || is_root trail.steps l.var.0) ≡ true → MarkedAll trail (l ∷ []) walk (record walk { marks = marks })
+pub marked_before : (trail : Assignment) (l : InLit) (walk : Walk) (marks : Marking) → IsWalkOn trail walk → marks ≡ walk.marks → (is_marked walk.marks l.var.0 || is_root trail.steps l.var.0) ≡ true → MarkedAll trail (l ∷ []) walk (record walk { marks = marks })
 marked_before trail l walk marks h m s =
     subst (λ (z : Marking). MarkedAll trail (l ∷ []) walk (record walk { marks = z })) (sym m)
     (record { stands = record { kept = h.kept; room = h.room; level = h.level; left = h.left; tracks = h.tracks }; still = refl; grows = λ v e. e; covers = one_covered trail.steps walk.left (is_marked walk.marks) l h.kept.sound s })
@@ -76,7 +76,7 @@ or_known true b e f = absurd (true≢false f)
 or_known false b e f = e
 
 -- one more variable is marked, and the counts follow
-marked_now : (trail : Assignment) (l : InLit) (walk : Walk) (marks : Marking) (pending : ℕ) (others : SmallVec InLit) → Stands trail walk → marks ≡ record walk.marks { vars = walk.marks.vars ++ l.var ∷ [] }
+marked_now : (trail : Assignment) (l : InLit) (walk : Walk) (marks : Marking) (pending : ℕ) (others : SmallVec InLit) → IsWalkOn trail walk → marks ≡ record walk.marks { vars = walk.marks.vars ++ l.var ∷ [] }
     → Tracks (level_of trail.steps) trail.steps (with_mark (is_marked walk.marks) l.var.0) (rest_of walk.left trail.steps) pending others.items
     → MarkedAll trail (l ∷ []) walk (record walk { marks = marks; pending = pending; others = others })
 marked_now trail l walk marks pending others h m k =
@@ -100,7 +100,7 @@ marked_now trail l walk marks pending others h m k =
     e : is_marked (record walk.marks { vars = walk.marks.vars ++ l.var ∷ [] }) ≡ with_mark (is_marked walk.marks) l.var.0
     e = is_marked-push walk.marks.vars walk.marks.room l.var
 
-present_tracks : (trail : Assignment) (l : InLit) (walk : Walk) (level : ℕ) → Stands trail walk → may_mark trail.steps walk l ≡ true → is_marked walk.marks l.var.0 ≡ false → level_in trail.steps l.var.0 ≡ Some level → level ≡ walk.level
+present_tracks : (trail : Assignment) (l : InLit) (walk : Walk) (level : ℕ) → IsWalkOn trail walk → may_mark trail.steps walk l ≡ true → is_marked walk.marks l.var.0 ≡ false → level_in trail.steps l.var.0 ≡ Some level → level ≡ walk.level
     → Tracks (level_of trail.steps) trail.steps (with_mark (is_marked walk.marks) l.var.0) (rest_of walk.left trail.steps) (suc walk.pending) walk.others.items
 present_tracks trail l walk level h k n i e =
     mark_present (level_of trail.steps) trail.steps (take (length trail.steps - walk.left) trail.steps) (rest_of walk.left trail.steps) (is_marked walk.marks) walk.pending walk.others.items l (rest_parts trail.steps walk.left) h.kept.sound
@@ -111,7 +111,7 @@ pub few_steps : (trail : Assignment) → IsKept trail → length trail.steps < 2
 few_steps trail k = let a : length trail.steps ≤ trail.reserved = steps_within trail.steps trail.reserved k.sound k.known in omega (arith, a, k.few)
 
 -- there is room for one more pending
-pub pending_room : (trail : Assignment) (l : InLit) (walk : Walk) (level : ℕ) → Stands trail walk → may_mark trail.steps walk l ≡ true → is_marked walk.marks l.var.0 ≡ false → level_in trail.steps l.var.0 ≡ Some level → level ≡ walk.level
+pub pending_room : (trail : Assignment) (l : InLit) (walk : Walk) (level : ℕ) → IsWalkOn trail walk → may_mark trail.steps walk l ≡ true → is_marked walk.marks l.var.0 ≡ false → level_in trail.steps l.var.0 ≡ Some level → level ≡ walk.level
     → walk.pending + 1 < 2 ^ 32
 pending_room trail l walk level h k n i e =
     let c : suc walk.pending ≡ marked (level_of trail.steps) (with_mark (is_marked walk.marks) l.var.0) (rest_of walk.left trail.steps) = (present_tracks trail l walk level h k n i e).count in
@@ -120,7 +120,7 @@ pending_room trail l walk level h k n i e =
     omega (arith, c, a, b, h.left, few_steps trail h.kept)
 
 -- a mark at the present level
-pub marked_present : (trail : Assignment) (l : InLit) (walk : Walk) (marks : Marking) (level : ℕ) → Stands trail walk → may_mark trail.steps walk l ≡ true → marks ≡ record walk.marks { vars = walk.marks.vars ++ l.var ∷ [] }
+pub marked_present : (trail : Assignment) (l : InLit) (walk : Walk) (marks : Marking) (level : ℕ) → IsWalkOn trail walk → may_mark trail.steps walk l ≡ true → marks ≡ record walk.marks { vars = walk.marks.vars ++ l.var ∷ [] }
     → is_marked walk.marks l.var.0 ≡ false → level_in trail.steps l.var.0 ≡ Some level → level ≡ walk.level → MarkedAll trail (l ∷ []) walk (record walk { marks = marks; pending = walk.pending + 1 })
 marked_present trail l walk marks level h k m n i e =
     let p : suc walk.pending ≡ walk.pending + 1 = omega arith in
@@ -128,7 +128,7 @@ marked_present trail l walk marks level h k m n i e =
     (subst (λ (z : ℕ). Tracks (level_of trail.steps) trail.steps (with_mark (is_marked walk.marks) l.var.0) (rest_of walk.left trail.steps) z walk.others.items) p (present_tracks trail l walk level h k n i e))
 
 -- a mark below it
-pub marked_lower : (trail : Assignment) (l : InLit) (walk : Walk) (marks : Marking) (others : SmallVec InLit) (level : ℕ) → Stands trail walk → may_mark trail.steps walk l ≡ true → marks ≡ record walk.marks { vars = walk.marks.vars ++ l.var ∷ [] }
+pub marked_lower : (trail : Assignment) (l : InLit) (walk : Walk) (marks : Marking) (others : SmallVec InLit) (level : ℕ) → IsWalkOn trail walk → may_mark trail.steps walk l ≡ true → marks ≡ record walk.marks { vars = walk.marks.vars ++ l.var ∷ [] }
     → is_marked walk.marks l.var.0 ≡ false → level_in trail.steps l.var.0 ≡ Some level → (level ≡ walk.level → ⊥) → others.items ≡ walk.others.items ++ l ∷ [] → MarkedAll trail (l ∷ []) walk (record walk { marks = marks; others = others })
 marked_lower trail l walk marks others level h k m n i e o =
     let u : level ≤ level_of trail.steps = level_top trail.steps l.var.0 level h.kept.sound i in
@@ -140,7 +140,7 @@ marked_lower trail l walk marks others level h k m n i e o =
     i d (or_known _ _ k n) n h.tracks))
 
 -- no literal so far
-pub marked_none : (trail : Assignment) (walk : Walk) → Stands trail walk → MarkedAll trail [] walk walk
+pub marked_none : (trail : Assignment) (walk : Walk) → IsWalkOn trail walk → MarkedAll trail [] walk walk
 marked_none trail walk h = record { stands = h; still = refl; grows = λ v e. e; covers = refl }
 
 -- the next literal may be marked too

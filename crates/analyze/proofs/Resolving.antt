@@ -17,11 +17,12 @@ use Rattle.propagate.specs.Reasons.{names, has_reason, reasoned}
 use Rattle.analyze.specs.declared.walk.Walk.{Walk}
 use Rattle.analyze.specs.Falsity.{false_at, has_present}
 use Rattle.analyze.specs.Marking.{is_marked, IsFresh}
-use Rattle.analyze.specs.Walks.{covered, marked, rest_of, Tracks, Denies, Stands, IsStart, MarkedAll, AtWalk, IsTaken, AtEnd, may_mark}
-use Rattle.analyze.specs.TrailLaws.{only_level}
-use Rattle.analyze.proofs.Entailing.{lits_at, names_live, names_lits, read_value, roots, conflict_denied, pass_denied, resolve_denied}
+use Rattle.analyze.specs.Walks.{covered, marked, rest_of, Tracks, Denies, IsWalkOn, IsStart, MarkedAll, AtWalk, IsTaken, AtEnd, may_mark}
+use Rattle.analyze.specs.FalsityLaws.{only_level}
+use Rattle.analyze.proofs.Entailing.{lits_at, names_lits, read_value, roots, conflict_denied, pass_denied, resolve_denied}
 use Rattle.analyze.proofs.Tracking.{pass_tracks, take_tracks, pending_level, pending_reason, marked_some, marked_mono, marked_nothing, end_follows}
 use Rattle.analyze.proofs.Rests.{IsNext, next_step, rest_all, rest_none, Split, split}
+use Rattle.propagate.specs.Laws.{names_live}
 
 -- the start: nothing is marked
 pub start_stands : (trail : Assignment) (walk : Walk) → IsKept trail → IsFresh trail.reserved walk.marks → walk.level ≡ level_of trail.steps → walk.left ≡ length trail.steps → walk.pending ≡ 0 → walk.others.items ≡ [] → IsStart trail walk
@@ -102,7 +103,7 @@ pub record Head (held : List Held) (trail : Assignment) (walk : Walk) (left : �
   pub inside : left < length trail.steps
   pub parts : Split held trail.steps s (rest_of left trail.steps)
   pub level : s.level ≡ level_of trail.steps
-  pub stands : Stands trail walk
+  pub stands : IsWalkOn trail walk
   pub tracks : Tracks (level_of trail.steps) trail.steps (is_marked walk.marks) (s ∷ rest_of left trail.steps) walk.pending walk.others.items
   pub denies : Denies held (is_marked walk.marks) (s ∷ rest_of left trail.steps)
 
@@ -146,7 +147,7 @@ head_passed held trail walk left s h f o =
       some = o;
     }
 
-head_stands : (held : List Held) (trail : Assignment) (walk : Walk) (left less : ℕ) (s : Step) → Head held trail walk left s → is_marked walk.marks s.lit.var.0 ≡ true → walk.pending ≡ suc less → Stands trail (record walk { left = left; pending = less })
+head_stands : (held : List Held) (trail : Assignment) (walk : Walk) (left less : ℕ) (s : Step) → Head held trail walk left s → is_marked walk.marks s.lit.var.0 ≡ true → walk.pending ≡ suc less → IsWalkOn trail (record walk { left = left; pending = less })
 head_stands held trail walk left less s h f e =
     record {
       kept = h.stands.kept;
@@ -185,7 +186,7 @@ pub head_end : (held : List Held) (trail : Assignment) (walk : Walk) (left : ℕ
     → AtEnd held trail (record walk { left = left; pending = 0 }) (record { var = l.var; negative = not l.negative })
 head_end held trail walk left s l h i f e o =
     let g : is_marked walk.marks s.lit.var.0 ≡ true = subst (λ (z : InLit). is_marked walk.marks z.var.0 ≡ true) (sym i) f in
-    let a : Stands trail (record walk { left = left; pending = 0 }) = head_stands held trail walk left 0 s h g e in
+    let a : IsWalkOn trail (record walk { left = left; pending = 0 }) = head_stands held trail walk left 0 s h g e in
     let n : opposite s.lit (record { var = l.var; negative = not l.negative }) ≡ true = subst (λ (z : InLit). opposite z (record { var = l.var; negative = not l.negative }) ≡ true) (sym i) (negated_opposite l) in
     record {
       stands = a;

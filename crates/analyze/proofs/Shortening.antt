@@ -14,14 +14,14 @@ use Rattle.trail.specs.Laws.{levels_low, level_up, opposite_var, filter_any, fal
 use Rattle.clause_store.specs.Store.{Held, clause_at, is_live}
 use Rattle.propagate.specs.Units.{gives}
 use Rattle.propagate.specs.Reasons.{names, passes, has_reason, reasoned, lit_value, held_value}
-use Rattle.propagate.specs.Laws.{named_all}
+use Rattle.propagate.specs.Laws.{named_all, names_live}
 use Rattle.analyze.specs.declared.walk.Walk.{Walk}
 use Rattle.analyze.specs.Falsity.{false_at, false_by, false_under}
 use Rattle.analyze.specs.LearnedClauses.{ClauseFollows, IsLearned, has_each_once}
 use Rattle.analyze.specs.Marking.{is_marked, is_root, level_or, IsGreatest}
-use Rattle.analyze.specs.Walks.{AtEnd, is_settled, settles, is_implied}
-use Rattle.analyze.specs.TrailLaws.{only_level}
-use Rattle.analyze.proofs.Entailing.{names_live, same_lit_value, opposite_value, roots}
+use Rattle.analyze.specs.Walks.{AtEnd, is_marked_or_root, leaves_marked_or_root, is_implied}
+use Rattle.analyze.specs.FalsityLaws.{only_level}
+use Rattle.analyze.proofs.Entailing.{same_lit_value, opposite_value, roots}
 use Rattle.analyze.proofs.Tracking.{level_all}
 use Rattle.analyze.proofs.Rests.{Split, split_parts}
 use Rattle.analyze.proofs.Marked.{level_set}
@@ -60,7 +60,7 @@ low_true w seen k s = not (seen s.lit.var.0 && ltb s.level k) || lit_value w s.l
 
 -- a settled literal that is false by older steps is false where the marked ones among these are true
 settled_false : (w : ℕ → Bool) (held : List Held) (t older : List Step) (seen : ℕ → Bool) (k n : ℕ) (q : InLit) → held_value w held ≡ true → shaped t ≡ true → reasoned held t ≡ true → n < k → list_all (λ s. leb s.level n) older ≡ true
-    → list_all (low_true w seen k) older ≡ true → is_settled seen t q ≡ true → false_in older q ≡ true → false_in t q ≡ true → lit_value w q ≡ false
+    → list_all (low_true w seen k) older ≡ true → is_marked_or_root seen t q ≡ true → false_in older q ≡ true → false_in t q ≡ true → lit_value w q ≡ false
 settled_false w held t older seen k n q v sound r h low i st f ft =
     ⊎_elim
     (λ (a : seen q.var.0 ≡ true).
@@ -81,18 +81,18 @@ settled_false w held t older seen k n q v sound r h low i st f ft =
 
 -- a literal whose reason is settled is true
 settled_true : (w : ℕ → Bool) (held : List Held) (t older : List Step) (s : Step) (seen : ℕ → Bool) (k : ℕ) (o : Option ClauseId) → held_value w held ≡ true → shaped t ≡ true → reasoned held t ≡ true → Split held t s older → s.level < k
-    → list_all (low_true w seen k) older ≡ true → settles held t seen o ≡ true → has_reason held older s o ≡ true → lit_value w s.lit ≡ true
+    → list_all (low_true w seen k) older ≡ true → leaves_marked_or_root held t seen o ≡ true → has_reason held older s o ≡ true → lit_value w s.lit ≡ true
 settled_true w held t older s seen k None v sound r x l i st h = absurd (false≢true st)
 settled_true w held t older s seen k (Some id) v sound r x l i st h =
     let e : (shaped_step older s ≡ true) × (shaped older ≡ true) = and_parts _ _ x.is_shaped in
     let u : level_of older ≤ s.level = level_up older s e.0 in
-    named_all (λ (h : Held). clause_value (lit_value w) h.lits) (λ c. gives older s.lit c && list_all (is_settled seen t) c) held id (lit_value w s.lit ≡ true) (names_both held id (gives older s.lit) (list_all (is_settled seen t)) h st) v
+    named_all (λ (h : Held). clause_value (lit_value w) h.lits) (λ c. gives older s.lit c && list_all (is_marked_or_root seen t) c) held id (lit_value w s.lit ≡ true) (names_both held id (gives older s.lit) (list_all (is_marked_or_root seen t)) h st) v
     (λ h a g.
-    let p : (gives older s.lit h.lits ≡ true) × (list_all (is_settled seen t) h.lits ≡ true) = and_parts _ _ g in
+    let p : (gives older s.lit h.lits ≡ true) × (list_all (is_marked_or_root seen t) h.lits ≡ true) = and_parts _ _ g in
     let q : (list_any (same_lit s.lit) h.lits ≡ true) × (list_all (λ m. same_lit s.lit m || false_in older m) h.lits ≡ true) = and_parts _ _ p.0 in
-    all_or_any (λ (m : InLit). (same_lit s.lit m || false_in older m) && is_settled seen t m) (lit_value w) (lit_value w s.lit ≡ true) h.lits
-    (both_all (λ (m : InLit). same_lit s.lit m || false_in older m) (is_settled seen t) (λ (m : InLit). (same_lit s.lit m || false_in older m) && is_settled seen t m) (λ m y z. and_from _ _ y z) h.lits q.1 p.1) a
-    (λ m y z. let j : ((same_lit s.lit m || false_in older m) ≡ true) × (is_settled seen t m ≡ true) = and_parts _ _ y in
+    all_or_any (λ (m : InLit). (same_lit s.lit m || false_in older m) && is_marked_or_root seen t m) (lit_value w) (lit_value w s.lit ≡ true) h.lits
+    (both_all (λ (m : InLit). same_lit s.lit m || false_in older m) (is_marked_or_root seen t) (λ (m : InLit). (same_lit s.lit m || false_in older m) && is_marked_or_root seen t m) (λ m y z. and_from _ _ y z) h.lits q.1 p.1) a
+    (λ m y z. let j : ((same_lit s.lit m || false_in older m) ≡ true) × (is_marked_or_root seen t m ≡ true) = and_parts _ _ y in
     ⊎_elim (λ (b : same_lit s.lit m ≡ true). same_lit_value w s.lit m b ∙ z)
     (λ (b : false_in older m ≡ true).
     absurd (both_ways _ (settled_false w held t older seen k s.level m v sound r l (levels_low older s.level e.1 u) i j.1 b (x.found (λ c. opposite c.lit m) (or_right _ _ b))) z))
@@ -113,7 +113,7 @@ low_all w held t gone (s ∷ older) seen k others v sound r n a p =
     one x i l m o b =
         ⊎_elim
         (λ (c : is_implied held t seen m ≡ true).
-        let d : settles held t seen s.reason ≡ true = subst (λ (z : Option ClauseId). settles held t seen z ≡ true) (ap (reason_in t) (sym (opposite_var s.lit m o)) ∙ x.reason) c in
+        let d : leaves_marked_or_root held t seen s.reason ≡ true = subst (λ (z : Option ClauseId). leaves_marked_or_root held t seen z ≡ true) (ap (reason_in t) (sym (opposite_var s.lit m o)) ∙ x.reason) c in
         let q : (has_reason held older s s.reason ≡ true) × (reasoned held older ≡ true) = and_parts _ _ x.is_reasoned in
         settled_true w held t older s seen k s.reason v sound r x l i d q.0)
         (λ (c : not (lit_value w m) ≡ true). twice _ (ap not (sym (opposite_value w s.lit m o)) ∙ c))

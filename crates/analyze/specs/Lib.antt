@@ -7,6 +7,6 @@ pub mod Marking
 pub mod Inside
 pub mod Walks
 pub mod Deciding
-pub mod TrailLaws
+pub mod FalsityLaws
 pub mod QuietLaws
 pub mod AddedLaws

@@ -17,12 +17,12 @@ abbrev pub QuietBelow : List Held → List Step → Type 0
 QuietBelow held steps = (level : ℕ) → level < level_of steps → all_quiet (back_to level steps) held ≡ true
 
 -- whether all literals of one clause stand in another
-abbrev pub is_within : List InLit → List InLit → Bool
-is_within inner outer = list_all (λ l. list_any (same_lit l) outer) inner
+abbrev pub is_contained : List InLit → List InLit → Bool
+is_contained inner outer = list_all (λ l. list_any (same_lit l) outer) inner
 
 -- whether a clause has all literals of no clause that is held
 abbrev pub is_new : List Held → List InLit → Bool
-is_new held lits = list_all (λ clause. not (is_within clause.lits lits)) held
+is_new held lits = list_all (λ clause. not (is_contained clause.lits lits)) held
 
 -- what is learned has all literals of no clause that is held, where nothing was false or unit below the present level
 abbrev pub LearnsNew : Type 0

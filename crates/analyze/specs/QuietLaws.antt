@@ -15,8 +15,8 @@ use Rattle.propagate.specs.Units.{unit_by, false_clause, quiet_clause, all_quiet
 use Rattle.propagate.specs.Reasons.{names, passes}
 use Rattle.analyze.specs.Falsity.{false_at, false_by, has_present}
 use Rattle.analyze.specs.LearnedClauses.{IsLearned, has_each_once, unit_by_first}
-use Rattle.analyze.specs.Quiet.{QuietBelow, is_within, is_new}
-use Rattle.analyze.specs.TrailLaws.{by_false, at_false, false_back, gone_unset}
+use Rattle.analyze.specs.Quiet.{QuietBelow, is_contained, is_new}
+use Rattle.analyze.specs.FalsityLaws.{by_false, at_false, false_back, gone_unset}
 
 -- a clause in which no variable stands twice has no literal twice
 pub once_distinct : (lits : List InLit) → has_each_once lits ≡ true → is_distinct lits ≡ true
@@ -43,7 +43,7 @@ pub learned_unit_by_first : (held : List Held) (t : List Step) (c : List InLit) 
 learned_unit_by_first held t c back e l = subst (λ (d : List InLit). unit_by_first (back_to back t) d ≡ true) (sym l.parts) (unit_after t back l.first l.others e l.first_false l.others_false l.below)
 
 -- no clause that was quiet below the present level is within a clause that is false by one literal of that level
-not_within : (t : List Step) (b : ℕ) (first : InLit) (others h : List InLit) → shaped t ≡ true → false_in t first ≡ true → list_all (false_by t b) others ≡ true → quiet_clause (back_to b t) h ≡ true → is_within h (first ∷ others) ≡ true → ⊥
+not_within : (t : List Step) (b : ℕ) (first : InLit) (others h : List InLit) → shaped t ≡ true → false_in t first ≡ true → list_all (false_by t b) others ≡ true → quiet_clause (back_to b t) h ≡ true → is_contained h (first ∷ others) ≡ true → ⊥
 not_within t b first others h e f o q s =
     ⊎_elim
     (λ (a : list_any (true_in (back_to b t)) h ≡ true). all_or_any (λ (m : InLit). list_any (same_lit m) (first ∷ others)) (true_in (back_to b t)) ⊥ h s a
@@ -68,9 +68,9 @@ not_within t b first others h e f o q s =
 -- what is learned is new where nothing was false or unit below the present level
 pub learned_new : (held : List Held) (t : List Step) (c : List InLit) (back : ℕ) → shaped t ≡ true → QuietBelow held t → IsLearned held t c back → is_new held c ≡ true
 learned_new held t c back e q l =
-    all_mono (λ (h : Held). quiet_clause (back_to back t) h.lits) (λ (h : Held). not (is_within h.lits c))
-    (λ h x. not_from_false _ (false_from_ne_true _ (λ (y : is_within h.lits c ≡ true).
-    not_within t back l.first l.others h.lits e (at_false t (level_of t) l.first l.first_false) l.others_false x (subst (λ (d : List InLit). is_within h.lits d ≡ true) l.parts y))))
+    all_mono (λ (h : Held). quiet_clause (back_to back t) h.lits) (λ (h : Held). not (is_contained h.lits c))
+    (λ h x. not_from_false _ (false_from_ne_true _ (λ (y : is_contained h.lits c ≡ true).
+    not_within t back l.first l.others h.lits e (at_false t (level_of t) l.first l.first_false) l.others_false x (subst (λ (d : List InLit). is_contained h.lits d ≡ true) l.parts y))))
     held (q back l.below)
 
 -- below its own back level the learned clause is quiet: its first literal and one of that level are unset

@@ -43,7 +43,7 @@ pub record Tracks (k : ℕ) (steps : List Step) (seen : ℕ → Bool) (rest : Li
   pub once : has_each_once others ≡ true
 
 -- the fields of a walk belong to a trail
-pub record Stands (trail : Assignment) (walk : Walk) : Type 0 where
+pub record IsWalkOn (trail : Assignment) (walk : Walk) : Type 0 where
   pub kept : IsKept trail
   pub room : trail.reserved ≤ walk.marks.room
   pub level : walk.level ≡ level_of trail.steps
@@ -52,7 +52,7 @@ pub record Stands (trail : Assignment) (walk : Walk) : Type 0 where
 
 -- no literal was walked yet, and none is marked
 pub record IsStart (trail : Assignment) (walk : Walk) : Type 0 where
-  pub stands : Stands trail walk
+  pub stands : IsWalkOn trail walk
   pub whole : walk.left ≡ length trail.steps
 
 -- whether a literal is marked or false in the rest of the walk
@@ -61,14 +61,14 @@ may_mark steps walk l = is_marked walk.marks l.var.0 || false_in (rest_of walk.l
 
 -- the literals that are false in the rest of the walk are marked now, those of level 0 aside
 pub record MarkedAll (trail : Assignment) (lits : List InLit) (old new : Walk) : Type 0 where
-  pub stands : Stands trail new
+  pub stands : IsWalkOn trail new
   pub still : new.left ≡ old.left
   pub grows : (v : ℕ) → is_marked old.marks v ≡ true → is_marked new.marks v ≡ true
   pub covers : list_all (λ l. not (false_in (rest_of old.left trail.steps) l) || covered (is_marked new.marks) (rest_of old.left trail.steps) l) lits ≡ true
 
 -- between two literals of the walk
 pub record AtWalk (held : List Held) (trail : Assignment) (walk : Walk) : Type 0 where
-  pub stands : Stands trail walk
+  pub stands : IsWalkOn trail walk
   pub denies : Denies held (is_marked walk.marks) (rest_of walk.left trail.steps)
   pub some : 0 < walk.pending
 
@@ -79,26 +79,26 @@ pub record IsTaken (held : List Held) (trail : Assignment) (walk : Walk) (l : In
   pub inside : walk.left < length trail.steps
   pub is_lit : step.lit ≡ l
   pub seen : is_marked walk.marks l.var.0 ≡ true
-  pub stands : Stands trail walk
+  pub stands : IsWalkOn trail walk
   pub denies : Denies held (is_marked walk.marks) (step ∷ rest_of walk.left trail.steps)
   pub some : 0 < walk.pending
 
 -- the walk has come to the last marked literal of the present level, and this is its negation
 pub record AtEnd (held : List Held) (trail : Assignment) (walk : Walk) (first : InLit) : Type 0 where
-  pub stands : Stands trail walk
+  pub stands : IsWalkOn trail walk
   pub above : 0 < level_of trail.steps
   pub first_false : false_at trail.steps (level_of trail.steps) first ≡ true
   pub follows : ClauseFollows held (first ∷ walk.others.items)
 
 -- whether a variable is marked or of level 0
-abbrev pub is_settled : (ℕ → Bool) → List Step → InLit → Bool
-is_settled seen steps l = seen l.var.0 || is_root steps l.var.0
+abbrev pub is_marked_or_root : (ℕ → Bool) → List Step → InLit → Bool
+is_marked_or_root seen steps l = seen l.var.0 || is_root steps l.var.0
 
 -- whether a reason has no literal that is neither
-abbrev pub settles : List Held → List Step → (ℕ → Bool) → Option ClauseId → Bool
-settles held steps seen None = false
-settles held steps seen (Some id) = names held id (list_all (is_settled seen steps))
+abbrev pub leaves_marked_or_root : List Held → List Step → (ℕ → Bool) → Option ClauseId → Bool
+leaves_marked_or_root held steps seen None = false
+leaves_marked_or_root held steps seen (Some id) = names held id (list_all (is_marked_or_root seen steps))
 
 -- whether the others of a clause imply a literal of it: its variable has a reason, and what that holds is marked or of level 0
 abbrev pub is_implied : List Held → List Step → (ℕ → Bool) → InLit → Bool
-is_implied held steps seen l = settles held steps seen (reason_in steps l.var.0)
+is_implied held steps seen l = leaves_marked_or_root held steps seen (reason_in steps l.var.0)

@@ -73,7 +73,7 @@ impl Marks {
     }
 
     /// Whether the variable of a literal is marked, or of level 0.
-    pub fn settles(&self, trail: &Trail, lit: InLit) -> bool
+    pub fn leaves_marked_or_root(&self, trail: &Trail, lit: InLit) -> bool
         ensures { result ≡ (is_marked self.now lit.var.0 || is_root trail.now.steps lit.var.0) }
     {
         self.contains(lit.var) || trail.level_of(lit.var).unwrap_or(0) == 0

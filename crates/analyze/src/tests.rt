@@ -3,7 +3,7 @@ ghost use Rattle.sat_lits.specs.InLits.{is_distinct};
 ghost use Rattle.trail.specs.Trail.{lits_of};
 ghost use Rattle.propagate.specs.Units.{false_clause};
 ghost use Rattle.propagate.specs.Reasons.{names, reasoned};
-ghost use Rattle.propagate.specs.Watching.{HasTaken, taken_as, lits_below, clauses_below, is_right};
+ghost use Rattle.propagate.specs.Watching.{HasTakenOver, taken_as, lits_below, clauses_below, is_right};
 ghost use Rattle.analyze.specs.Falsity.{has_present};
 
 use crate::{Analyzer, Learned, Tally};
@@ -38,7 +38,7 @@ fn decide(
     trail: &mut Trail,
     lit: InLit,
 ) -> Result<Found, &'static str>
-    requires taken { HasTaken watches.old.taken store.now.held }
+    requires taken { HasTakenOver watches.old.taken store.now.held }
     requires clauses { IsTrue (clauses_below watches.old.variables store.now.held) }
     requires variables { watches.old.variables ≡ trail.old.reserved }
     requires done { watches.old.done ≡ lits_of trail.old.steps }
@@ -66,7 +66,7 @@ fn decide_all(
     trail: &mut Trail,
     lits: &[InLit],
 ) -> Result<Option<ClauseId>, &'static str>
-    requires taken { HasTaken watches.old.taken store.now.held }
+    requires taken { HasTakenOver watches.old.taken store.now.held }
     requires clauses { IsTrue (clauses_below watches.old.variables store.now.held) }
     requires variables { watches.old.variables ≡ trail.old.reserved }
     requires done { watches.old.done ≡ lits_of trail.old.steps }

@@ -31,7 +31,7 @@ pub struct Walk {
 }
 
 impl Walk {
-    ghost use Rattle.analyze.specs.Walks.{Stands, IsStart, MarkedAll, AtWalk, IsTaken, AtEnd, may_mark, is_implied};
+    ghost use Rattle.analyze.specs.Walks.{IsWalkOn, IsStart, MarkedAll, AtWalk, IsTaken, AtEnd, may_mark, is_implied};
 
     /// It takes no memory.
     pub fn new(alloc: Global) -> Walk {
@@ -58,7 +58,7 @@ impl Walk {
 
     /// Marks the variables of literals that are false in the rest of the walk.
     pub fn mark_all(&mut self, trail: &Trail, lits: &[InLit]) -> Result<(), NoMemory>
-        requires stands { Stands trail.now self.old }
+        requires stands { IsWalkOn trail.now self.old }
         requires known { IsTrue (list_all (may_mark trail.now.steps self.old) lits.now) }
         ensures { OnOk result (MarkedAll trail.now lits.now self.old self.new) }
     {
@@ -69,7 +69,7 @@ impl Walk {
     }
 
     fn mark(&mut self, trail: &Trail, lit: InLit) -> Result<(), NoMemory>
-        requires stands { Stands trail.now self.old }
+        requires stands { IsWalkOn trail.now self.old }
         requires known { IsTrue (may_mark trail.now.steps self.old lit) }
         ensures { OnOk result (MarkedAll trail.now (lit ∷ []) self.old self.new) }
     {
@@ -164,7 +164,7 @@ impl Walk {
             return false;
         };
         for other in store.lits(id) {
-            if !self.marks.settles(trail, *other) {
+            if !self.marks.leaves_marked_or_root(trail, *other) {
                 return false;
             }
         }

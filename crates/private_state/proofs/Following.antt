@@ -13,7 +13,7 @@ use Rattle.rebuild_stack.specs.declared.entry.Entry.{Entry}
 use Rattle.rebuild_stack.specs.declared.entry.Entry.TheVariants.{Fix, Equal, Gone}
 use Rattle.rebuild_stack.specs.declared.entry.Root.{Root}
 use Rattle.rebuild_stack.specs.declared.entry.Root.TheVariants.{Known, Last, Lost}
-use Rattle.state_laws.specs.RootTableLaws.{entry_of, depth, entry_of-named, entry_of-push, root_without_entry, root_fixed, root_gone, depth_replaced, AreOnce}
+use Rattle.state_laws.specs.RootTableLaws.{entry_of, depth, entry_of-named, entry_of-push, root_without_entry, root_fixed, root_gone, depth_replaced, AreOnce, once_newer, depth_at_most}
 use Rattle.private_state.specs.Removed.{last_lit, fixed_value}
 use Rattle.private_state.specs.Statuses.{status_of, IsEnd}
 use Rattle.private_state.specs.declared.removed.Status.{Status}
@@ -42,9 +42,6 @@ last_without_entry (e ∷ newer) l h =
     let p : (names l.var.0 e ≡ false) × (list_any (names l.var.0) newer ≡ false) = or_parts _ _ h in
     last_skip e newer l p.0 ∙ last_without_entry newer l p.1
 
-once_newer : (active : ℕ → Bool) (e : Entry) (newer : List Entry) → AreOnce active (e ∷ newer) → AreOnce active newer
-once_newer active e newer h k = let c : cond {A = ℕ} (names k e) 1 0 + times_named k newer + cond {A = ℕ} (active k) 1 0 ≤ 1 = h k in omega arith
-
 -- a variable that an entry names is not named by newer ones
 named_once : (active : ℕ → Bool) (e : Entry) (newer : List Entry) (k : ℕ) → AreOnce active (e ∷ newer) → names k e ≡ true → list_any (names k) newer ≡ false
 named_once active e newer k h n = unnamed k newer (none (names k e) n (h k))
@@ -52,14 +49,6 @@ named_once active e newer k h n = unnamed k newer (none (names k e) n (h k))
     none : (b : Bool) → b ≡ true → cond {A = ℕ} b 1 0 + times_named k newer + cond {A = ℕ} (active k) 1 0 ≤ 1 → times_named k newer ≡ 0
     none true q c = omega arith
     none false q c = absurd (true≢false (sym q))
-
-depth_at_most : (k : ℕ) (s : List Entry) → depth k s ≤ length s
-depth_at_most k [] = omega arith
-depth_at_most k (e ∷ newer) = go (names k e) (depth_at_most k newer)
-  where
-    go : (b : Bool) → depth k newer ≤ length newer → cond b (suc (length newer)) (depth k newer) ≤ suc (length newer)
-    go true d = omega arith
-    go false d = omega arith
 
 -- a variable whose entry is newer is not named by the oldest one
 deeper : (k : ℕ) (e : Entry) (newer : List Entry) → depth k (e ∷ newer) ≤ length newer → names k e ≡ false

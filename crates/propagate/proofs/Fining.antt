@@ -8,14 +8,13 @@ use Rattle.sat_lits.specs.InLits.{same_lit, opposite}
 use Rattle.sat_lits.specs.declared.literal.InLit.{InLit}
 use Rattle.trail.specs.declared.trail.Step.{Step}
 use Rattle.trail.specs.Trail.{lits_of, true_in}
-use Rattle.trail.specs.Laws.{lits_of-newest}
+use Rattle.trail.specs.Laws.{lits_of-newest, same_lit_eq, same_lit_self}
 use Rattle.clause_store.specs.Store.{Held}
 use Rattle.propagate.specs.declared.watches.Taken.{Taken}
 use Rattle.propagate.specs.Watching.{IsFront}
 use Rattle.propagate.specs.Watched.{no_lit, watch_at, clause_of}
 use Rattle.propagate.specs.Walks.{IsSettled, AllGood}
 use Rattle.propagate.specs.Fine.{IsMarked, IsTold, IsFine, AllFine}
-use Rattle.propagate.proofs.Looking.{same_lit_eq, same_lit_self}
 use Rattle.sat_lits.specs.ListLaws.{any_mono}
 use Rattle.propagate.proofs.Passing.{any_lits}
 

@@ -13,7 +13,7 @@ use Rattle.clause_store.specs.Store.{Held, rising}
 use Rattle.propagate.specs.declared.watches.Taken.{Taken}
 use Rattle.propagate.specs.declared.table.Table.{Table}
 use Rattle.propagate.specs.Reasons.{Extends}
-use Rattle.propagate.specs.Watching.{IsFront, HasTaken, taken_at}
+use Rattle.propagate.specs.Watching.{IsFront, HasTakenOver, taken_at}
 use Rattle.propagate.specs.Chains.{Linked, Keyed}
 use Rattle.propagate.specs.Watched.{Has, no_lit, no_taken, watch_at, clause_of, id_of, lits_in, is_whole, code_of, key_in, other_of, AreWatched}
 use Rattle.propagate.specs.Walks.{AllGood, Keeps}
@@ -402,7 +402,7 @@ keeps_start taken done starts table fresh n m d s e w l f =
     (keeps_first taken table fresh n (subst (λ (z : ℕ). AreWords table n z) e w) (l ∙ e) (λ i h. f i (subst (λ (z : ℕ). i < z) (sym e) h))))
 
 -- after a pass with no conflict every clause is quiet
-pub passed_quiet : (held : List Held) (taken looked passed : List Taken) (from to : List Step) (mid new : Table) (missed : Bool) → rising held ≡ true → HasTaken taken held → looked ≡ taken → passed ≡ taken → AreWatched new.heads.items new.next.items new.watched.items passed new.whole.items
+pub passed_quiet : (held : List Held) (taken looked passed : List Taken) (from to : List Step) (mid new : Table) (missed : Bool) → rising held ≡ true → HasTakenOver taken held → looked ≡ taken → passed ≡ taken → AreWatched new.heads.items new.next.items new.watched.items passed new.whole.items
     → AllGood held passed (lits_of to) to new.whole.items new.watched.items missed → LooksRight held looked from mid.whole.items None → new.whole ≡ mid.whole → Extends held from to → all_quiet to held ≡ true
 passed_quiet held taken looked passed from to mid new missed r h l p w g s wh x =
     watched_quiet held taken to new.heads.items new.next.items new.watched.items new.whole.items missed r h (subst (λ (z : List Taken). AreWatched new.heads.items new.next.items new.watched.items z new.whole.items) p w)

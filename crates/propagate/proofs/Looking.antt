@@ -1,26 +1,9 @@
 -- One clause, literal by literal.
 use Rattle.std.proofs.Common.{◌≡◌, ℕ, Bool, true, false, cond, not, eqb, ◌&&◌, ◌||◌, List, [], ◌∷◌, Some, None, refl, ap₂, eq-eqb}
-use Rattle.std.specs.Bool.{beq}
 use Rattle.std.proofs.lemmas.Bool.{and_parts, and_from, or_parts, eqb-true, true≢false, not_from_false}
-use Rattle.sat_lits.specs.InLits.{same_lit}
-use Rattle.sat_lits.specs.ClauseLaws.{beq_true}
 use Rattle.sat_lits.specs.declared.literal.InLit.{InLit}
 use Rattle.trail.specs.declared.trail.Step.{Step}
 use Rattle.trail.specs.Trail.{true_in, false_in, set_in, unset_in, value_in}
-
-beq_self : (b : Bool) → beq b b ≡ true
-beq_self true = refl
-beq_self false = refl
-
--- a literal is the same as itself
-pub same_lit_self : (l : InLit) → same_lit l l ≡ true
-same_lit_self l = and_from _ _ (eq-eqb l.var.0 l.var.0 refl) (beq_self l.negative)
-
--- literals that the test calls the same are
-pub same_lit_eq : (k l : InLit) → same_lit k l ≡ true → k ≡ l
-same_lit_eq k l e =
-    let p : (eqb k.var.0 l.var.0 ≡ true) × (beq k.negative l.negative ≡ true) = and_parts _ _ e in
-    ap₂ (λ (v : ℕ) (n : Bool). record { var = record { 0 = v }; negative = n }) (eqb-true _ _ p.0) (beq_true _ _ p.1)
 
 neither : (a b : Bool) → cond a (Some true) (cond b (Some false) None) ≡ None → (a ≡ false) × (b ≡ false)
 neither true b e = absurd (cc)

@@ -9,7 +9,7 @@ use Rattle.propagate.specs.declared.watches.Taken.{Taken}
 use Rattle.propagate.specs.Chains.{Linked, Lacks, Once, Keyed, AreChains, with_list}
 use Rattle.propagate.specs.Watched.{Has, other_of, code_of, watch_at, key_in, no_lit, clause_of, is_whole, AreWatched}
 use Rattle.propagate.proofs.Chaining.{put_in, other_lacks, key_at, gone}
-use Rattle.propagate.proofs.Looking.{same_lit_eq, same_lit_self}
+use Rattle.trail.specs.Laws.{same_lit_eq, same_lit_self}
 
 pub other_other : (e : ℕ) → other_of (other_of e) ≡ e
 other_other e = go (eqb (e % 2) 0) refl

@@ -9,9 +9,8 @@ use Rattle.sat_lits.specs.InLits.{same_lit}
 use Rattle.sat_lits.specs.declared.literal.InLit.{InLit}
 use Rattle.trail.specs.declared.trail.Step.{Step}
 use Rattle.trail.specs.Trail.{false_in, shaped, step_in, value_in}
-use Rattle.trail.specs.Laws.{set_in-step_in, none_of-unset, any_of-step, value_in-step, value_in-false}
+use Rattle.trail.specs.Laws.{set_in-step_in, none_of-unset, any_of-step, value_in-step, value_in-false, same_lit_self}
 use Rattle.propagate.specs.Watched.{open_but}
-use Rattle.propagate.proofs.Looking.{same_lit_self}
 
 -- a literal that has no value false is not false
 pub not_false : (t : List Step) (l : InLit) → shaped t ≡ true → (value_in t l ≡ Some false → ⊥) → false_in t l ≡ false

@@ -10,7 +10,7 @@ use Rattle.sat_lits.specs.declared.literal.InLit.{InLit}
 use Rattle.sat_lits.specs.declared.literal.ClauseId.{ClauseId}
 use Rattle.trail.specs.declared.trail.Step.{Step}
 use Rattle.trail.specs.Trail.{Assignment, lits_of, false_in, level_of}
-use Rattle.trail.specs.Laws.{lits_of-newest}
+use Rattle.trail.specs.Laws.{lits_of-newest, same_lit_eq, same_lit_self}
 use Rattle.clause_store.specs.Store.{Held}
 use Rattle.propagate.specs.declared.watches.Taken.{Taken}
 use Rattle.propagate.specs.declared.table.Table.{Table}
@@ -19,7 +19,6 @@ use Rattle.propagate.specs.Watching.{clauses_below, steps_below}
 use Rattle.propagate.specs.Watched.{code_of, negated, no_lit, watch_at, is_whole, AreWatched}
 use Rattle.propagate.specs.Walks.{IsSettled, Keeps, AllSettled, AllGood}
 use Rattle.sat_lits.specs.ListLaws.{all_or_any}
-use Rattle.propagate.proofs.Looking.{same_lit_eq, same_lit_self}
 use Rattle.propagate.proofs.Room.{unit_below}
 use Rattle.propagate.proofs.Turning.{extends_more, settled_more, not_before}
 

@@ -12,13 +12,14 @@ use Rattle.trail.specs.Trail.{lits_of, true_in, false_in, unset_in}
 use Rattle.clause_store.specs.Store.{Held, clause_at, is_live, rising}
 use Rattle.propagate.specs.declared.watches.Taken.{Taken}
 use Rattle.propagate.specs.Units.{quiet_clause, all_quiet}
-use Rattle.propagate.specs.Watching.{HasTaken, taken_at}
+use Rattle.propagate.specs.Watching.{HasTakenOver, taken_at}
 use Rattle.propagate.specs.Watched.{watch_at, clause_of, id_of, lits_in, no_taken, is_whole, AreWatched}
 use Rattle.propagate.specs.Walks.{AllGood}
 use Rattle.propagate.specs.Starts.{IsSeen}
-use Rattle.propagate.proofs.Looking.{same_lit_eq, value_none}
+use Rattle.propagate.proofs.Looking.{value_none}
 use Rattle.propagate.proofs.Fining.{any_steps}
 use Rattle.propagate.proofs.Starting.{half_even, half_odd, other_even, clause_at_half}
+use Rattle.trail.specs.Laws.{same_lit_eq}
 
 -- two watched literals that are not false make a clause quiet
 pub pair_quiet : (t : List Step) (c : List InLit) (one two : InLit) → list_any (same_lit one) c ≡ true → list_any (same_lit two) c ≡ true → same_lit one two ≡ false → false_in t one ≡ false → false_in t two ≡ false → quiet_clause t c ≡ true
@@ -121,7 +122,7 @@ each_quiet t (h ∷ rest) r f =
     skip id false q l = ap (λ (b : Bool). option_map (λ (k : Held). k.lits) (cond b (Some h) (clause_at rest id))) q
 
 -- so every clause is quiet
-pub watched_quiet : (held : List Held) (taken : List Taken) (t : List Step) (heads next : List ℕ) (watched : List InLit) (whole : List Bool) (missed : Bool) → rising held ≡ true → HasTaken taken held → AreWatched heads next watched taken whole → AllGood held taken (lits_of t) t whole watched missed
+pub watched_quiet : (held : List Held) (taken : List Taken) (t : List Step) (heads next : List ℕ) (watched : List InLit) (whole : List Bool) (missed : Bool) → rising held ≡ true → HasTakenOver taken held → AreWatched heads next watched taken whole → AllGood held taken (lits_of t) t whole watched missed
     → ((n : ℕ) → n < length taken → get_or whole n true ≡ true → IsSeen held taken t n) → all_quiet t held ≡ true
 watched_quiet held taken t heads next watched whole missed r k a good seen = each_quiet t held r one
   where

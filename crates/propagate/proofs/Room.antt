@@ -9,13 +9,12 @@ use Rattle.sat_lits.specs.declared.literal.InLit.{InLit}
 use Rattle.sat_lits.specs.declared.literal.ClauseId.{ClauseId}
 use Rattle.trail.specs.declared.trail.Step.{Step}
 use Rattle.trail.specs.Trail.{Assignment, IsKept, lits_of, false_in}
-use Rattle.trail.specs.Laws.{steps_within}
+use Rattle.trail.specs.Laws.{steps_within, same_lit_eq}
 use Rattle.clause_store.specs.Store.{Held}
 use Rattle.propagate.specs.Units.{gives, unit_by}
 use Rattle.propagate.specs.Reasons.{names}
 use Rattle.propagate.specs.Watching.{lits_below, clauses_below, steps_below}
 use Rattle.propagate.specs.Laws.{named_all, unit_named}
-use Rattle.propagate.proofs.Looking.{same_lit_eq}
 
 -- the literal that a clause is unit by has a variable of that clause
 pub unit_below : (n : ℕ) (held : List Held) (t : List Step) (l : InLit) (id : ClauseId) → clauses_below n held ≡ true → names held id (unit_by t l) ≡ true → ltb l.var.0 n ≡ true

@@ -8,12 +8,11 @@ use Rattle.sat_lits.specs.declared.literal.InLit.{InLit}
 use Rattle.sat_lits.specs.declared.literal.ClauseId.{ClauseId}
 use Rattle.trail.specs.declared.trail.Step.{Step}
 use Rattle.trail.specs.Trail.{Assignment, true_in, false_in, unset_in, level_of, value_in, shaped}
-use Rattle.trail.specs.Laws.{value_in-none}
+use Rattle.trail.specs.Laws.{value_in-none, same_lit_eq}
 use Rattle.clause_store.specs.Store.{Held, clause_at}
 use Rattle.propagate.specs.Units.{gives, unit_by}
 use Rattle.propagate.specs.Reasons.{names, passes, Extends}
 use Rattle.propagate.proofs.Walking.{named}
-use Rattle.propagate.proofs.Looking.{same_lit_eq}
 use Rattle.sat_lits.specs.ListLaws.{any_mono}
 
 -- what an id's clause passes, its literals do

@@ -16,13 +16,13 @@ use Rattle.propagate.specs.declared.table.Table.{Table}
 use Rattle.propagate.specs.Reasons.{names}
 use Rattle.propagate.specs.Laws.{named_all}
 use Rattle.propagate.specs.Starts.{ArePair, IsStarted, IsSeen}
-use Rattle.propagate.proofs.Looking.{same_lit_eq}
 use Rattle.propagate.proofs.Turning.{names_taken}
-use Rattle.propagate.specs.Watching.{taken_at, HasTaken, clauses_below, lits_below}
+use Rattle.propagate.specs.Watching.{taken_at, HasTakenOver, clauses_below, lits_below}
 use Rattle.propagate.specs.Chains.{Lacks, AreChains, with_list}
 use Rattle.propagate.specs.Watched.{Has, other_of, code_of, watch_at, key_in, no_lit, no_taken, lits_in, id_of, clause_of, is_whole, AreWatched}
 use Rattle.propagate.proofs.Chaining.{put_in}
 use Rattle.propagate.proofs.Moving.{has_with, with_has, with_here, not_same_sym, other_half}
+use Rattle.trail.specs.Laws.{same_lit_eq}
 
 -- the clause of an entry is that of its half
 pub clause_at_half : (taken : List Taken) (i j : ℕ) → i / 2 ≡ j / 2 → clause_of taken i ≡ clause_of taken j
@@ -204,7 +204,7 @@ pub record StartedAs (held : List Held) (taken : List Taken) (n : ℕ) (from to 
   pub is : IsStarted taken n from to old new two
   pub heads : length new.heads.items ≡ length old.heads.items
 
-pub started_as : (held : List Held) (taken : List Taken) (n : ℕ) (id : ClauseId) (from to : List Step) (old new : Table) (one two : InLit) → AreWatched old.heads.items old.next.items old.watched.items taken old.whole.items → HasTaken taken held → n < length taken → get_or old.whole.items n true ≡ true
+pub started_as : (held : List Held) (taken : List Taken) (n : ℕ) (id : ClauseId) (from to : List Step) (old new : Table) (one two : InLit) → AreWatched old.heads.items old.next.items old.watched.items taken old.whole.items → HasTakenOver taken held → n < length taken → get_or old.whole.items n true ≡ true
     → id ≡ id_of taken (2 * n) → ArePair held id from to one two → code_of one < length old.heads.items → code_of two < length old.heads.items
     → new.heads.items ≡ set (set old.heads.items (code_of one) (2 * n + 1)) (code_of two) ((2 * n + 1) + 1)
     → new.next.items ≡ set (set old.next.items (2 * n) (get_or old.heads.items (code_of one) 0)) (2 * n + 1) (get_or (set old.heads.items (code_of one) (2 * n + 1)) (code_of two) 0)
@@ -239,7 +239,7 @@ started_as held taken n id from to old new one two a k nl nw i p h1 h2 eh en ew 
 pub id_here : (taken : List Taken) (n : ℕ) (d : Taken) → n < length taken → (get_or taken n d).id ≡ id_of taken (2 * n)
 id_here taken n d l = ap (λ (t : Taken). t.id) (get_or_default taken n d no_taken l) ∙ ap (λ (i : ℕ). (get_or taken i no_taken).id) (sym (half_even n))
 
-pub seen_here : (taken : List Taken) (held : List Held) (n : ℕ) (id : ClauseId) (t : List Step) → HasTaken taken held → id ≡ id_of taken (2 * n) → names held id (λ c. list_any (true_in t) c) ≡ true → IsSeen held taken t n
+pub seen_here : (taken : List Taken) (held : List Held) (n : ℕ) (id : ClauseId) (t : List Step) → HasTakenOver taken held → id ≡ id_of taken (2 * n) → names held id (λ c. list_any (true_in t) c) ≡ true → IsSeen held taken t n
 seen_here taken held n id t k i m = inl (subst (λ (z : ClauseId). list_any (true_in t) (lits_in (taken_at taken z.0)) ≡ true) i (names_taken taken held id (λ c. list_any (true_in t) c) k m))
 
 -- a literal of a clause has words of its own

@@ -16,15 +16,15 @@ use Rattle.clause_store.specs.Store.{Held, clause_at, is_live}
 use Rattle.propagate.specs.declared.watches.Taken.{Taken}
 use Rattle.propagate.specs.declared.table.Table.{Table}
 use Rattle.propagate.specs.Reasons.{names, passes, Extends, derives, unit_reason}
-use Rattle.propagate.specs.Laws.{derived_level, named_all}
-use Rattle.propagate.specs.Watching.{taken_at, HasTaken, clauses_below, lits_below}
+use Rattle.propagate.specs.Laws.{derived_level, named_all, names_live}
+use Rattle.propagate.specs.Watching.{taken_at, HasTakenOver, clauses_below, lits_below}
 use Rattle.propagate.specs.Chains.{Linked, Once, AreChains, with_list}
 use Rattle.propagate.specs.Watched.{Has, EndsAt, EndsWith, cut_heads, cut_next, other_of, code_of, watch_at, key_in, clause_of, lits_in, id_of, no_lit, no_taken, open_but, is_whole, AreWatched}
 use Rattle.propagate.specs.Walks.{IsSettled, Keeps, AllSettled}
 use Rattle.propagate.proofs.Chaining.{frame, take_first, take_after}
 use Rattle.propagate.proofs.Spelling.{steps_from, chain_counted}
 use Rattle.propagate.proofs.Moving.{MovedTo, moved, with_here, not_same_sym, entry_below, has_mid, other_half, other_below}
-use Rattle.propagate.proofs.Looking.{same_lit_eq}
+use Rattle.trail.specs.Laws.{same_lit_eq}
 
 -- what a trail that goes on from one that goes on derives
 derives_more : (held : List Held) (newer mid older : List Step) → derives held newer (mid ++ older) ≡ true → derives held mid older ≡ true → derives held (newer ++ mid) older ≡ true
@@ -332,7 +332,7 @@ before_below held taken lit from to old now before entry missed a = ⊎_elim fir
         omega (arith, b, w.word)
 
 -- a live clause is taken over with its literals
-pub taken_names : (taken : List Taken) (held : List Held) (id : ClauseId) (test : List InLit → Bool) → HasTaken taken held → is_live held id.0 ≡ true → test (lits_in (taken_at taken id.0)) ≡ true → names held id test ≡ true
+pub taken_names : (taken : List Taken) (held : List Held) (id : ClauseId) (test : List InLit → Bool) → HasTakenOver taken held → is_live held id.0 ≡ true → test (lits_in (taken_at taken id.0)) ≡ true → names held id test ≡ true
 taken_names taken held id test k l e = go (clause_at held id.0) (taken_at taken id.0) l (k id.0 l) e
   where
     go : (o : Option Held) (t : Option Taken) → is_some o ≡ true → option_map (λ (u : Taken). u.lits) t ≡ option_map (λ (h : Held). h.lits) o → test (lits_in t) ≡ true → passes test o ≡ true
@@ -340,14 +340,7 @@ taken_names taken held id test k l e = go (clause_at held id.0) (taken_at taken 
     go (Some h) None f g m = absurd (none-some h.lits g)
     go (Some h) (Some t) f g m = ap test (sym (same_Some t.lits h.lits g)) ∙ m
 
-pub names_live : (held : List Held) (id : ClauseId) (test : List InLit → Bool) → names held id test ≡ true → is_live held id.0 ≡ true
-names_live held id test e = go (clause_at held id.0) e
-  where
-    go : (o : Option Held) → passes test o ≡ true → is_some o ≡ true
-    go None f = absurd (false≢true f)
-    go (Some h) f = refl
-
-pub names_taken : (taken : List Taken) (held : List Held) (id : ClauseId) (test : List InLit → Bool) → HasTaken taken held → names held id test ≡ true → test (lits_in (taken_at taken id.0)) ≡ true
+pub names_taken : (taken : List Taken) (held : List Held) (id : ClauseId) (test : List InLit → Bool) → HasTakenOver taken held → names held id test ≡ true → test (lits_in (taken_at taken id.0)) ≡ true
 names_taken taken held id test k e = go (clause_at held id.0) (taken_at taken id.0) (k id.0 (names_live held id test e)) e
   where
     go : (o : Option Held) (t : Option Taken) → option_map (λ (u : Taken). u.lits) t ≡ option_map (λ (h : Held). h.lits) o → passes test o ≡ true → test (lits_in t) ≡ true
@@ -373,7 +366,7 @@ other_in held taken lit from to old now before entry missed a p =
     let b : other_of (entry - 1) < 2 * length taken = other_below (entry - 1) (length taken) (place_below held taken lit from to old now before entry missed a p) in
     subst (λ (i : ClauseId). list_any (same_lit (watch_at now.watched.items (other_of (entry - 1)))) (lits_in (taken_at taken i.0)) ≡ true) (id_other taken (entry - 1)) (a.watched.within (other_of (entry - 1)) b w)
 
-pub settle_within : (held : List Held) (taken : List Taken) (lit : InLit) (from to : Assignment) (old now : Table) (before entry : ℕ) (missed : Bool) (id : ClauseId) (other : InLit) → AtEntry held taken lit from to old now before entry missed → 0 < entry → HasTaken taken held
+pub settle_within : (held : List Held) (taken : List Taken) (lit : InLit) (from to : Assignment) (old now : Table) (before entry : ℕ) (missed : Bool) (id : ClauseId) (other : InLit) → AtEntry held taken lit from to old now before entry missed → 0 < entry → HasTakenOver taken held
     → id ≡ id_of taken (entry - 1) → other ≡ watch_at now.watched.items (other_of (entry - 1)) → is_live held id.0 ≡ true → names held id (λ lits. list_any (same_lit other) lits) ≡ true
 settle_within held taken lit from to old now before entry missed id other a p k i o l =
     taken_names taken held id (λ lits. list_any (same_lit other) lits) k l
@@ -453,7 +446,7 @@ walk_right held taken lit from to old now before entry missed a z e b w q =
     whole_front (x ∷ xs) rest l h = ⊎_elim (λ r. inl r) (λ r. inr (whole_front xs rest l r)) h
 
 -- what is known of a literal that was found
-pub found_parts : (taken : List Taken) (held : List Held) (id : ClauseId) (e : ℕ) (t : List Step) (other found : InLit) → HasTaken taken held → id ≡ id_of taken e → names held id (λ lits. open_but t other lits found) ≡ true
+pub found_parts : (taken : List Taken) (held : List Held) (id : ClauseId) (e : ℕ) (t : List Step) (other found : InLit) → HasTakenOver taken held → id ≡ id_of taken e → names held id (λ lits. open_but t other lits found) ≡ true
     → (list_any (same_lit found) (clause_of taken e) ≡ true) × (false_in t found ≡ false) × (same_lit other found ≡ false)
 found_parts taken held id e t other found k i n =
     let m : open_but t other (clause_of taken e) found ≡ true = subst (λ (z : ClauseId). open_but t other (lits_in (taken_at taken z.0)) found ≡ true) i (names_taken taken held id (λ lits. open_but t other lits found) k n) in

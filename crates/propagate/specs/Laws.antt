@@ -1,6 +1,6 @@
 -- Facts on propagation that every crate above may cite.
-use Rattle.std.proofs.Common.{◌≡◌, ℕ, Bool, true, false, cond, not, eqb, ◌&&◌, ◌||◌, List, [], ◌∷◌, ◌++◌, Option, Some, None, refl, sym, ap, subst, ◌∙◌, ⊎_elim}
-use Rattle.std.proofs.lemmas.Bool.{and_parts, and_from, or_cases, eqb-true, false≢true, both_ways}
+use Rattle.std.proofs.Common.{◌≡◌, ℕ, Bool, true, false, cond, not, eqb, ◌&&◌, ◌||◌, List, [], ◌∷◌, ◌++◌, Option, Some, None, refl, sym, ap, subst, ◌∙◌, ⊎_elim, ◌<◌, ◌≤◌}
+use Rattle.std.proofs.lemmas.Bool.{and_parts, and_from, or_cases, eqb-true, false≢true, both_ways, cases_lt}
 use Rattle.std.specs.List.{list_any, list_all}
 use Rattle.sat_lits.specs.InLits.{same_lit, opposite}
 use Rattle.sat_lits.specs.ListLaws.{all_or_any}
@@ -9,10 +9,12 @@ use Rattle.sat_lits.specs.Truth.{clause_value}
 use Rattle.sat_lits.specs.declared.literal.InLit.{InLit}
 use Rattle.sat_lits.specs.declared.literal.ClauseId.{ClauseId}
 use Rattle.trail.specs.declared.trail.Step.{Step}
-use Rattle.trail.specs.Trail.{false_in, unset_in, level_of}
-use Rattle.clause_store.specs.Store.{Held, clause_at}
+use Rattle.trail.specs.Trail.{false_in, unset_in, level_of, shaped, shaped_step, back_to}
+use Rattle.clause_store.specs.Store.{Held, clause_at, is_live}
 use Rattle.propagate.specs.Units.{gives, unit_by}
 use Rattle.propagate.specs.Reasons.{names, passes, has_reason, reasoned, unit_reason, derives, Extends, lit_value, steps_value, held_value, Follows}
+use Rattle.trail.specs.Laws.{back_nowhere, back_past}
+use Rattle.std.specs.Option.{is_some}
 
 -- what all clauses pass, one that is named passes with its own test
 pub named_all : (p : Held → Bool) (test : List InLit → Bool) (held : List Held) (id : ClauseId) (r : Type 0) → names held id test ≡ true → list_all p held ≡ true → ((h : Held) → p h ≡ true → test h.lits ≡ true → r) → r
@@ -98,3 +100,39 @@ extends_follows held from to x w a b = subst (λ (z : List Step). steps_value w 
 -- it is of the same level
 pub extends_level : (held : List Held) (from to : List Step) → Extends held from to → level_of to ≡ level_of from
 extends_level held from to x = ap level_of x.parts ∙ derived_level held x.newer from x.derived
+
+-- an id that names a clause is live
+pub names_live : (held : List Held) (id : ClauseId) (test : List InLit → Bool) → names held id test ≡ true → is_live held id.0 ≡ true
+names_live held id test e = go (clause_at held id.0) e
+  where
+    go : (o : Option Held) → passes test o ≡ true → is_some o ≡ true
+    go None f = absurd (false≢true f)
+    go (Some h) f = refl
+
+-- the way back leaves a trail reasoned
+pub back_reasoned : (held : List Held) (t : List Step) (k : ℕ) → shaped t ≡ true → reasoned held t ≡ true → reasoned held (back_to k t) ≡ true
+back_reasoned held [] k e r = refl
+back_reasoned held (s ∷ older) k e r =
+    let p : (shaped_step older s ≡ true) × (shaped older ≡ true) = and_parts _ _ e in
+    let q : (has_reason held older s s.reason ≡ true) × (reasoned held older ≡ true) = and_parts _ _ r in
+    ⊎_elim (λ (a : k < s.level). subst (λ (z : List Step). reasoned held z ≡ true) (sym (back_past older s k a)) (back_reasoned held older k p.1 q.1))
+    (λ (a : s.level ≤ k). subst (λ (z : List Step). reasoned held z ≡ true) (sym (back_nowhere (s ∷ older) k e a)) r) (cases_lt k s.level)
+
+names_more : (held : List Held) (h : Held) (k : ClauseId) (test : List InLit → Bool) → names held k test ≡ true → names (held ++ h ∷ []) k test ≡ true
+names_more [] h k test e = absurd (false≢true e)
+names_more (g ∷ held) h k test e = go (eqb g.id k.0) e (λ (f : names held k test ≡ true). names_more held h k test f)
+  where
+    go : (b : Bool) → passes test (cond b (Some g) (clause_at held k.0)) ≡ true → (names held k test ≡ true → names (held ++ h ∷ []) k test ≡ true) → passes test (cond b (Some g) (clause_at (held ++ h ∷ []) k.0)) ≡ true
+    go true f r = f
+    go false f r = r f
+
+-- a clause that is added leaves a trail reasoned
+pub reasoned_more : (held : List Held) (h : Held) (t : List Step) → reasoned held t ≡ true → reasoned (held ++ h ∷ []) t ≡ true
+reasoned_more held h [] e = refl
+reasoned_more held h (s ∷ older) e =
+    let p : (has_reason held older s s.reason ≡ true) × (reasoned held older ≡ true) = and_parts _ _ e in
+    and_from _ _ (step s.reason p.0) (reasoned_more held h older p.1)
+  where
+    step : (r : Option ClauseId) → has_reason held older s r ≡ true → has_reason (held ++ h ∷ []) older s r ≡ true
+    step None e = e
+    step (Some k) e = names_more held h k (gives older s.lit) e

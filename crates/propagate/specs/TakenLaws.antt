@@ -5,7 +5,7 @@ use Rattle.std.proofs.lemmas.Bool.{false≢true, true≢false, eqb-true}
 use Rattle.std.proofs.lemmas.Option.{none-some}
 use Rattle.clause_store.specs.Store.{Held, clause_at}
 use Rattle.propagate.specs.declared.watches.Taken.{Taken}
-use Rattle.propagate.specs.Watching.{taken_as, taken_at, is_taken, HasTaken}
+use Rattle.propagate.specs.Watching.{taken_as, taken_at, is_taken, HasTakenOver}
 
 find_taken : (held : List Held) (id : ℕ) → taken_at (map taken_as held) id ≡ option_map taken_as (clause_at held id)
 find_taken [] id = refl
@@ -16,7 +16,7 @@ find_taken (h ∷ rest) id = go (eqb h.id id) (find_taken rest id)
     go false i = i
 
 -- after `prepare`
-pub takes_all : (held : List Held) → HasTaken (map taken_as held) held
+pub takes_all : (held : List Held) → HasTakenOver (map taken_as held) held
 takes_all held id live = ap (option_map (λ (t : Taken). t.lits)) (find_taken held id) ∙ twice (clause_at held id)
   where
     twice : (o : Option Held) → option_map (λ (t : Taken). t.lits) (option_map taken_as o) ≡ option_map (λ (h : Held). h.lits) o
@@ -40,7 +40,7 @@ find_right {X = X} p (y ∷ xs) ys e = go (p y) e (λ (f : find p xs ≡ None). 
     go false f i = i f
 
 -- after `attach` of a clause that was added
-pub takes_more : (taken : List Taken) (held : List Held) (h : Held) → HasTaken taken held → is_taken taken h.id ≡ false → HasTaken (taken ++ taken_as h ∷ []) (held ++ h ∷ [])
+pub takes_more : (taken : List Taken) (held : List Held) (h : Held) → HasTakenOver taken held → is_taken taken h.id ≡ false → HasTakenOver (taken ++ taken_as h ∷ []) (held ++ h ∷ [])
 takes_more taken held h k n id live = go (clause_at held id) refl
   where
     same : (b : Bool) → option_map (λ (t : Taken). t.lits) (cond b (Some (taken_as h)) None) ≡ option_map (λ (g : Held). g.lits) (cond b (Some h) None)

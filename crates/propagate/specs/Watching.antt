@@ -29,8 +29,8 @@ abbrev pub is_taken : List Taken → ℕ → Bool
 is_taken taken id = is_some (taken_at taken id)
 
 -- every live clause was taken over, with its id and the literals that it has now
-abbrev pub HasTaken : List Taken → List Held → Type 0
-HasTaken taken held = (id : ℕ) → is_live held id ≡ true → option_map (λ clause. clause.lits) (taken_at taken id) ≡ option_map (λ clause. clause.lits) (clause_at held id)
+abbrev pub HasTakenOver : List Taken → List Held → Type 0
+HasTakenOver taken held = (id : ℕ) → is_live held id ≡ true → option_map (λ clause. clause.lits) (taken_at taken id) ≡ option_map (λ clause. clause.lits) (clause_at held id)
 
 -- whether the variables of literals are below a number
 abbrev pub lits_below : ℕ → List InLit → Bool

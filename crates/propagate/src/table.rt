@@ -8,7 +8,7 @@ ghost use Rattle.propagate.specs.Units.{gives, false_clause};
 ghost use Rattle.propagate.specs.Starts.{ChoosesRight, StartsRight, LooksRight, AreListed};
 ghost use Rattle.propagate.specs.Fine.{AllFine, IsLater};
 ghost use Rattle.propagate.specs.Words.{AreWords, HasPlace, IsSame};
-ghost use Rattle.propagate.specs.Watching.{IsFront, HasTaken, clauses_below, steps_below};
+ghost use Rattle.propagate.specs.Watching.{IsFront, HasTakenOver, clauses_below, steps_below};
 ghost use Rattle.propagate.specs.Watched.{AreWatched, code_of, negated, no_lit, cut_heads, cut_next, id_of, other_of, watch_at, open_but};
 ghost use Rattle.propagate.specs.Visits.{VisitsRight};
 ghost use Rattle.propagate.specs.Walks.{Keeps, WalksRight, AllGood, PassRight};
@@ -151,7 +151,7 @@ impl Table {
     /// another one, or has its other watched literal true or assigned.
     fn walk(&mut self, taken: &[Taken], store: &ClauseStore, trail: &mut Trail, lit: InLit) -> Walk
         requires watched { AreWatched self.old.heads.items self.old.next.items self.old.watched.items taken.now self.old.whole.items }
-        requires taken { HasTaken taken.now store.now.held }
+        requires taken { HasTakenOver taken.now store.now.held }
         requires few { 2 * length taken.now < 2 ^ 32 }
         requires lit_false { IsTrue (false_in trail.old.steps lit) }
         requires key { code_of lit < length self.old.heads.items }
@@ -195,7 +195,7 @@ impl Table {
         from: usize,
     ) -> Walk
         requires watched { AreWatched self.old.heads.items self.old.next.items self.old.watched.items taken.now self.old.whole.items }
-        requires taken { HasTaken taken.now store.now.held }
+        requires taken { HasTakenOver taken.now store.now.held }
         requires few { 2 * length taken.now < 2 ^ 32 }
         requires steps { IsTrue (steps_below (length self.old.heads.items / 2) trail.old.steps) }
         requires clauses { IsTrue (clauses_below (length self.old.heads.items / 2) store.now.held) }
@@ -236,7 +236,7 @@ impl Table {
     ) -> Option<ClauseId>
         requires watched { AreWatched self.old.heads.items self.old.next.items self.old.watched.items taken.now self.old.whole.items }
         requires listed { AreListed taken.now self.old.whole.items fresh.old.items }
-        requires taken { HasTaken taken.now store.now.held }
+        requires taken { HasTakenOver taken.now store.now.held }
         requires few { 2 * length taken.now < 2 ^ 32 }
         requires clauses { IsTrue (clauses_below (length self.old.heads.items / 2) store.now.held) }
         requires reserved { IsTrue (clauses_below trail.old.reserved store.now.held) }
@@ -279,7 +279,7 @@ impl Table {
         requires watched { AreWatched self.old.heads.items self.old.next.items self.old.watched.items taken.now self.old.whole.items }
         requires n { n < length taken.now }
         requires whole { slice_index_or self.old.whole.items n true ≡ true }
-        requires taken { HasTaken taken.now store.now.held }
+        requires taken { HasTakenOver taken.now store.now.held }
         requires few { 2 * length taken.now < 2 ^ 32 }
         requires clauses { IsTrue (clauses_below (length self.old.heads.items / 2) store.now.held) }
         requires reserved { IsTrue (clauses_below trail.old.reserved store.now.held) }

@@ -2,7 +2,7 @@ ghost use Rattle.std.specs.Prelude.{◌≡◌, ◌<◌, ◌≤◌, ℕ, length, 
 ghost use Rattle.trail.specs.Trail.{lits_of, IsKept};
 ghost use Rattle.clause_store.specs.Store.{clause_at, is_live};
 ghost use Rattle.propagate.specs.Reasons.{Extends, Follows, names, reasoned};
-ghost use Rattle.propagate.specs.Watching.{HasTaken, IsDone, IsFront, taken_as, is_taken, lits_below, clauses_below, steps_below, is_right};
+ghost use Rattle.propagate.specs.Watching.{HasTakenOver, IsDone, IsFront, taken_as, is_taken, lits_below, clauses_below, steps_below, is_right};
 
 use crate::table::{Table, Walk, mark_all, reserve_all};
 use clause_store::ClauseStore;
@@ -128,7 +128,7 @@ impl Watches {
     pub fn prepare(&mut self, store: &ClauseStore, variables: u32) -> Result<(), NoMemory>
         requires { IsTrue (clauses_below variables store.now.held) }
         ensures ok { OnOk result (self.new ≡ record { taken = map taken_as store.now.held; done = []; variables = variables }) }
-        ensures taken { OnOk result (HasTaken self.new.taken store.now.held) }
+        ensures taken { OnOk result (HasTakenOver self.new.taken store.now.held) }
         ensures err { OnErr result (self.new ≡ self.old) }
     {
         let alloc = *self.done.allocator();
@@ -193,7 +193,7 @@ impl Watches {
     /// in the trail and below the number that `prepare` was given, the variables of the trail too,
     /// and what it is done with has to be the beginning of the trail.
     pub fn propagate(&mut self, store: &ClauseStore, trail: &mut Trail) -> Found
-        requires taken { HasTaken self.old.taken store.now.held }
+        requires taken { HasTakenOver self.old.taken store.now.held }
         requires reserved { IsTrue (clauses_below trail.old.reserved store.now.held) }
         requires clauses { IsTrue (clauses_below self.old.variables store.now.held) }
         requires steps { IsTrue (steps_below self.old.variables trail.old.steps) }

@@ -1,7 +1,7 @@
 -- Facts on literals, items and formulas that every crate above may cite.
-use Rattle.std.proofs.Common.{◌≡◌, ℕ, ◌+◌, ◌≤◌, Bool, true, false, ◌&&◌, cond, List, [], ◌∷◌, ◌++◌, length, None, Some, nat_lt, nat_le, refl, ◌∙◌, arith}
+use Rattle.std.proofs.Common.{◌≡◌, ℕ, ◌+◌, ◌<◌, ◌≤◌, Bool, true, false, ◌&&◌, cond, List, [], ◌∷◌, ◌++◌, length, None, Some, nat_lt, nat_le, refl, ◌∙◌, arith}
 use Rattle.std.specs.List.{list_all}
-use Rattle.std.proofs.lemmas.Bool.{and_from, lt-ltb, ltb-true, leb-false}
+use Rattle.std.proofs.lemmas.Bool.{and_from, and_parts, lt-ltb, ltb-true, leb-false, leb-true}
 use Rattle.std.proofs.lemmas.List.Sums.{sum_by-append}
 pub use Rattle.sat_lits.specs.ListLaws.{all_mono, all_at, all_push}
 use Rattle.sat_lits.specs.Limits.{LimitNumbers}
@@ -23,6 +23,17 @@ known_where_none vars (n ∷ ns) e = go (nat_le vars n) refl e (known_where_none
         → (first_unknown vars ns ≡ None → list_all (λ m. nat_lt m vars) ns ≡ true) → nat_lt n vars && list_all (λ m. nat_lt m vars) ns ≡ true
     go true f h rest = cc
     go false f h rest = and_from _ _ (lt-ltb n vars (leb-false vars n f)) (rest h)
+
+-- and where each is known, none is unknown
+pub none_where_known : (vars : ℕ) (numbers : List ℕ) → list_all (λ n. nat_lt n vars) numbers ≡ true → first_unknown vars numbers ≡ None
+none_where_known vars [] e = refl
+none_where_known vars (n ∷ ns) e =
+    let a : (nat_lt n vars ≡ true) × (list_all (λ m. nat_lt m vars) ns ≡ true) = and_parts _ _ e in
+    go (nat_le vars n) refl (ltb-true n vars a.0) (none_where_known vars ns a.1)
+  where
+    go : (v : Bool) → nat_le vars n ≡ v → n < vars → first_unknown vars ns ≡ None → cond v (Some n) (first_unknown vars ns) ≡ None
+    go true f h rest = absurd (omega (arith, leb-true vars n f))
+    go false f h rest = rest
 
 -- one item more counts its literals
 pub lit_count-push : (items : List Item) (item : Item) → lit_count (items ++ item ∷ []) ≡ lit_count items + length (numbers_of item)

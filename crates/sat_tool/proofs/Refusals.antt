@@ -5,17 +5,7 @@ use Rattle.std.proofs.lemmas.Bool.{and_parts, ltb-true, leb-true}
 use Rattle.sat_lits.specs.Formulas.{first_unknown}
 use Rattle.sat_api.specs.declared.error.ApiError.{ApiError}
 use Rattle.sat_api.specs.declared.error.ApiError.TheVariants.{NoSuchVar, TooManyVars, TooManyLits, Memory}
-
--- where each number is known, none is unknown
-none_where_known : (vars : ℕ) (numbers : List ℕ) → list_all (λ n. nat_lt n vars) numbers ≡ true → first_unknown vars numbers ≡ None
-none_where_known vars [] e = refl
-none_where_known vars (n ∷ ns) e =
-    let a : (nat_lt n vars ≡ true) × (list_all (λ m. nat_lt m vars) ns ≡ true) = and_parts _ _ e in
-    go (nat_le vars n) refl (ltb-true n vars a.0) (none_where_known vars ns a.1)
-  where
-    go : (v : Bool) → nat_le vars n ≡ v → n < vars → first_unknown vars ns ≡ None → cond v (Some n) (first_unknown vars ns) ≡ None
-    go true f h rest = absurd (omega (arith, leb-true vars n f))
-    go false f h rest = rest
+use Rattle.sat_lits.specs.Laws.{none_where_known}
 
 pub only_memory : (error : ApiError) (result : Result (Unit {0}) ApiError) (vars count limit : ℕ) (numbers : List ℕ) → result ≡ Err error → list_all (λ n. nat_lt n vars) numbers ≡ true → count ≤ limit
     → ((n : ℕ) → (result ≡ Err (NoSuchVar n)) ↔ (first_unknown vars numbers ≡ Some n)) → (result ≡ Err TooManyLits) ↔ ((first_unknown vars numbers ≡ None) × (limit < count)) → result ≢ Err TooManyVars

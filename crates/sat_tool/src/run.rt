@@ -8,9 +8,9 @@ ghost use Rattle.sat_tool.specs.Reports.{status_of};
 ghost use Rattle.sat_tool.specs.Runs.{AnswersText, StopsRight, RunsRight, most_read};
 
 use crate::answer::{answer, refuse};
+use crate::failures::{NoReport, Unread};
 use crate::read::read_formula;
 use crate::report::Report;
-use crate::failures::{NoReport, Unread};
 use crate::words::read_words;
 use sat_api::SatSolver;
 use sat_ports::{Alarm, Sink, Source};

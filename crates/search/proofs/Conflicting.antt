@@ -15,18 +15,10 @@ use Rattle.clause_store.specs.Store.{Held, Store, clause_at, is_live, rising, Is
 use Rattle.propagate.specs.Reasons.{names, passes}
 use Rattle.analyze.specs.Falsity.{false_by}
 use Rattle.analyze.specs.LearnedClauses.{IsLearned}
-use Rattle.analyze.specs.TrailLaws.{by_false, at_false}
+use Rattle.analyze.specs.FalsityLaws.{by_false, at_false}
 use Rattle.search.specs.InUse.{is_among, lits_among, clauses_among, steps_among}
 
--- a clause that is named is live
-pub named_live : (held : List Held) (id : ClauseId) (q : List InLit → Bool) → names held id q ≡ true → is_live held id.0 ≡ true
-named_live held id q e = go (clause_at held id.0) e
-  where
-    go : (o : Option Held) → passes q o ≡ true → is_some o ≡ true
-    go None f = absurd (false≢true f)
-    go (Some h) f = refl
-
--- so there is one
+-- a clause that is live is one of some clauses
 pub live_some : (held : List Held) (id : ℕ) → is_live held id ≡ true → 0 < length held
 live_some [] id e = absurd (false≢true e)
 live_some (h ∷ rest) id e = omega arith

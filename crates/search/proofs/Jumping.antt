@@ -18,7 +18,7 @@ use Rattle.propagate.specs.Watching.{Watching, IsFront, taken_as, taken_at, is_t
 use Rattle.propagate.specs.declared.watches.Taken.{Taken}
 use Rattle.analyze.specs.Counting.{saturated}
 use Rattle.analyze.specs.LearnedClauses.{IsLearned}
-use Rattle.analyze.specs.TrailLaws.{gone_unset, back_reasoned, reasoned_more}
+use Rattle.analyze.specs.FalsityLaws.{gone_unset}
 use Rattle.analyze.specs.QuietLaws.{conflict_keeps, learned_unit, learned_new}
 use Rattle.search_laws.specs.TrailNumber.{trail_number}
 use Rattle.search_laws.specs.NumberLaws.{conflict_raises}
@@ -37,6 +37,7 @@ use Rattle.search.proofs.Orders.{same_just}
 use Rattle.search.proofs.Passing.{passed_more}
 use Rattle.search.proofs.Using.{among_below}
 use Rattle.search.proofs.Conflicting.{learned_among, found_last, not_before, held_within, hard_last, learned_last}
+use Rattle.propagate.specs.Laws.{back_reasoned, reasoned_more}
 
 -- the step of the learned literal
 abbrev pub learned_step : InLit → ℕ → ℕ → Step

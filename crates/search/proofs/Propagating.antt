@@ -3,7 +3,7 @@ use Rattle.std.proofs.Common.{◌≡◌, List, sym, ap, subst, ◌∙◌}
 use Rattle.sat_lits.specs.declared.literal.InLit.{InLit}
 use Rattle.trail.specs.Trail.{Assignment, lits_of}
 use Rattle.propagate.specs.Reasons.{Extends}
-use Rattle.propagate.specs.Watching.{Watching, HasTaken, IsFront, IsDone}
+use Rattle.propagate.specs.Watching.{Watching, HasTakenOver, IsFront, IsDone}
 use Rattle.propagate.specs.TakenLaws.{takes_all}
 use Rattle.propagate.specs.declared.watches.Taken.{Taken}
 use Rattle.propagate.specs.declared.watches.Found.{Found}
@@ -18,8 +18,8 @@ use Rattle.search.proofs.Passing.{passed_longer}
 use Rattle.search.proofs.Going.{IsReached, reached}
 
 -- all clauses were taken over
-pub has_taken : (k : Kernel) (w : Work) → HasTables k w → HasTaken w.watches.taken k.store.held
-has_taken k w t = subst (λ (xs : List Taken). HasTaken xs k.store.held) (sym t.taken) (takes_all k.store.held)
+pub has_taken : (k : Kernel) (w : Work) → HasTables k w → HasTakenOver w.watches.taken k.store.held
+has_taken k w t = subst (λ (xs : List Taken). HasTakenOver xs k.store.held) (sym t.taken) (takes_all k.store.held)
 
 done_front : (done lits : List InLit) (found : Found) → IsDone done lits found → IsFront done lits
 done_front done lits Quiet e = subst (λ (xs : List InLit). IsFront xs lits) (sym e) (take-length lits)

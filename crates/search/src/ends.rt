@@ -5,12 +5,12 @@ use crate::answer::IntervalAnswer;
 
 /// The numbers of conflicts at which an interval ends: its own, and what is left to the caller.
 #[derive(Clone, Copy, Debug, Drop)]
-pub struct Ends {
+pub struct IntervalEnds {
     pub own: Option<u64>,
     pub left: Option<u64>,
 }
 
-impl Ends {
+impl IntervalEnds {
     /// The answer for a number of conflicts, where it is one at which the interval ends. What is
     /// left goes before the interval's own number.
     pub fn reached(self, conflicts: u64) -> Option<IntervalAnswer>

@@ -5,7 +5,7 @@ ghost use Rattle.search.specs.Answers.{AnswersRight, EndsRight, IsBelow, LearnsR
 ghost use Rattle.search.specs.Searching.{AtMove};
 
 use crate::answer::IntervalAnswer;
-use crate::ends::Ends;
+use crate::ends::IntervalEnds;
 use crate::work::Work;
 use analyze::Tally;
 use private_state::PrivateState;
@@ -19,7 +19,7 @@ impl Work {
     pub fn run<S: Alarm>(
         &mut self,
         state: &mut PrivateState,
-        ends: Ends,
+        ends: IntervalEnds,
         stop: &mut S,
         tally: &mut Tally,
     ) -> IntervalAnswer

@@ -4,7 +4,7 @@ ghost use Rattle.search.specs.InUse.{in_use, lits_among};
 ghost use Rattle.search.specs.Answers.{AnswersRight, EndsRight, LearnsRight, own_length};
 
 use crate::answer::IntervalAnswer;
-use crate::ends::Ends;
+use crate::ends::IntervalEnds;
 use crate::work::Work;
 use analyze::Tally;
 use pick_order::interval_len;
@@ -86,7 +86,7 @@ impl Search {
         if self.work.begin(state, assumptions, self.phase).is_err() {
             return IntervalAnswer::Memory;
         }
-        let ends = Ends {
+        let ends = IntervalEnds {
             own: interval_len(interval),
             left,
         };

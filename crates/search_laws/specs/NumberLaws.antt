@@ -6,7 +6,7 @@ use Rattle.std.proofs.lemmas.List.{length-append}
 use Rattle.trail.specs.declared.trail.Step.{Step}
 use Rattle.trail.specs.Trail.{level_of, decided, shaped, shaped_step, back_to}
 use Rattle.trail.specs.Laws.{step_level, back_nowhere, back_past}
-use Rattle.search_laws.specs.TrailNumber.{digit, digits, trail_number, IsBounded, IsSearch, start, more, conflict, MoreRaises, ConflictRaises, IsBelow, RunsEnd}
+use Rattle.search_laws.specs.TrailNumber.{digit, digits, trail_number, IsBounded, IsSearch, start, more, conflict, MoreRaises, ConflictRaises, NumberIsBelow, RunsEnd}
 
 digit_high : (b : Bool) → cond {A = ℕ} b 1 2 ≤ 2
 digit_high true = omega arith
@@ -48,7 +48,7 @@ within n (s ∷ gone) older h =
     omega arith
 
 -- the number is below 3 ^ n
-pub number_bound : IsBelow
+pub number_bound : NumberIsBelow
 number_bound n t h =
     let e : t ++ [] ≡ t = append-nil t in
     let l : length (t ++ []) ≤ n = rw e h in

@@ -39,8 +39,8 @@ ConflictRaises = (n level : ℕ) (s : Step) (steps : List Step) → shaped steps
     → trail_number n steps < trail_number n (s ∷ back_to level steps)
 
 -- the number has n digits
-abbrev pub IsBelow : Type 0
-IsBelow = (n : ℕ) (steps : List Step) → length steps ≤ n → trail_number n steps < 3 ^ n
+abbrev pub NumberIsBelow : Type 0
+NumberIsBelow = (n : ℕ) (steps : List Step) → length steps ≤ n → trail_number n steps < 3 ^ n
 
 -- a search has fewer than 3 ^ n moves, and no more conflicts than moves
 abbrev pub RunsEnd : Type 0

@@ -6,7 +6,7 @@
 //! raises that number.
 #![tactic(auto)]
 
-ghost use Rattle.search_laws.specs.TrailNumber.{MoreRaises, ConflictRaises, IsBelow, RunsEnd, FitsActive};
+ghost use Rattle.search_laws.specs.TrailNumber.{MoreRaises, ConflictRaises, NumberIsBelow, RunsEnd, FitsActive};
 
 /// One literal more raises the number of a trail.
 pub fn each_literal_raises_the_number()
@@ -21,7 +21,7 @@ pub fn each_conflict_raises_the_number()
 
 /// The number of a trail over n variables is below 3^n.
 pub fn the_number_is_below_a_power()
-    ensures { IsBelow }
+    ensures { NumberIsBelow }
 {}
 
 /// A search over n variables makes fewer than 3^n moves, and so has fewer than 3^n conflicts.

@@ -85,12 +85,12 @@ abbrev pub numbers : List ClauseId → List ℕ
 numbers ids = map (λ id. id.0) ids
 
 -- whether a clause has one of the ids
-abbrev pub is_among : List ℕ → Held → Bool
-is_among ids h = list_any (λ id. h.id == id) ids
+abbrev pub has_id_among : List ℕ → Held → Bool
+has_id_among ids h = list_any (λ id. h.id == id) ids
 
 -- a store without the clauses of these ids
 abbrev pub without_ids : List ℕ → Store → Store
-without_ids ids s = record s { held = filter (λ h. not (is_among ids h)) s.held }
+without_ids ids s = record s { held = filter (λ h. not (has_id_among ids h)) s.held }
 
 -- a walk over stored clauses collected the ids of those that hold the variable, and what they become
 pub record Collected (m : Maps) (r : OwnLit → Root) (v : ℕ) (held : List Held) (ids : List ℕ) (fresh : List InClause) : Type 0 where

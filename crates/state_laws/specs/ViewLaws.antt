@@ -26,7 +26,7 @@ use Rattle.state_laws.specs.declared.definition.Definition.{Definition}
 use Rattle.state_laws.specs.State.{State, outers_from}
 use Rattle.state_laws.specs.Stands.{Stands}
 use Rattle.state_laws.specs.Resolution.{mentions}
-use Rattle.state_laws.specs.Held.{own_or, own_of, own_clause, own_clauses, InClause, OwnClause, strip, in_own, hard_clause, relisted, put_each, touches, is_among, without_ids, ExtendsBy}
+use Rattle.state_laws.specs.Held.{own_or, own_of, own_clause, own_clauses, InClause, OwnClause, strip, in_own, hard_clause, relisted, put_each, touches, has_id_among, without_ids, ExtendsBy}
 use Rattle.state_laws.specs.Kernel.{Kernel, state_of, Standing}
 use Rattle.state_laws.specs.HeldLaws.{drop_those, keep_news}
 
@@ -143,8 +143,8 @@ fewer_pass p q m test (h ∷ hs) e = go (q h) (test h.learned) refl (fewer_pass 
 pub collected_held : (m : Maps) (v : ℕ) (s t : Store) (ids : List ℕ) (clauses : List InClause) → ids ≡ map (λ h. h.id) (filter (touches m v) s.held) → IsKept s → (x : ExtendsBy s t clauses)
     → (without_ids ids t).held ≡ filter (λ h. not (touches m v h)) s.held ++ x.news
 collected_held m v s t ids clauses d n x =
-    ap₂ {C = List Held} (λ (ns : List ℕ) (hs : List Held). filter (λ h. not (is_among ns h)) hs) d x.held
-    ∙ (filter-append (λ (h : Held). not (is_among (map (λ (y : Held). y.id) (filter (touches m v) s.held)) h)) s.held x.news
+    ap₂ {C = List Held} (λ (ns : List ℕ) (hs : List Held). filter (λ h. not (has_id_among ns h)) hs) d x.held
+    ∙ (filter-append (λ (h : Held). not (has_id_among (map (λ (y : Held). y.id) (filter (touches m v) s.held)) h)) s.held x.news
     ∙ ap₂ {C = List Held} ◌++◌ (drop_those (touches m v) s.held n.rises) (keep_news s.given (touches m v) s.held x.news n.below x.fresh))
 
 -- and how it is read

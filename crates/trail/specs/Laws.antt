@@ -7,7 +7,7 @@ use Rattle.std.specs.Bool.{beq}
 use Rattle.std.specs.Option.{is_some}
 use Rattle.std.specs.List.{list_any, list_all, IsDistinct, AllByRecursion}
 use Rattle.sat_lits.specs.InLits.{same_lit, opposite}
-use Rattle.sat_lits.specs.ListLaws.{all_or_any, any_mono}
+use Rattle.sat_lits.specs.ListLaws.{all_or_any, any_mono, filter_all}
 use Rattle.sat_lits.specs.ClauseLaws.{beq_true}
 use Rattle.sat_lits.specs.declared.literal.InLit.{InLit}
 use Rattle.trail.specs.declared.trail.Step.{Step}
@@ -49,19 +49,9 @@ level_within (s ∷ older) e =
     let i : level_of older ≤ length older = level_within older p.1 in
     ⊎_elim (λ (f : s.level ≡ level_of older). omega arith) (λ (f : (s.level ≡ level_of older + 1) × (decided s.reason ≡ true)). omega arith) (step_level older s p.0)
 
-filter_whole : {X : Type 0} (p : X → Bool) (xs : List X) → list_all p xs ≡ true → filter p xs ≡ xs
-filter_whole {X = X} p [] e = refl
-filter_whole {X = X} p (x ∷ xs) e =
-    let a : (p x ≡ true) × (list_all p xs ≡ true) = and_parts _ _ e in
-    go (p x) a.0 (filter_whole p xs a.1)
-  where
-    go : (b : Bool) → b ≡ true → filter p xs ≡ xs → cond b (x ∷ filter p xs) (filter p xs) ≡ x ∷ xs
-    go true f r = ap (λ (z : List X). x ∷ z) r
-    go false f r = absurd (false≢true f)
-
 -- the way back to the present level or one above it takes nothing
 pub back_nowhere : (t : List Step) (k : ℕ) → shaped t ≡ true → level_of t ≤ k → back_to k t ≡ t
-back_nowhere t k e h = filter_whole (λ s. leb s.level k) t (levels_low t k e h)
+back_nowhere t k e h = filter_all (λ s. leb s.level k) t (levels_low t k e h)
 
 -- the way back to a lower level takes the newest step
 pub back_past : (older : List Step) (s : Step) (k : ℕ) → k < s.level → back_to k (s ∷ older) ≡ back_to k older

@@ -1,4 +1,4 @@
-use Rattle.analyze.specs.TrailLaws.{reasoned_more}
+use Rattle.propagate.specs.Laws.{reasoned_more}
 use Rattle.analyze.proofs.laws.an_added_clause_keeps_a_trail_reasoned.Goals as goal
 
 pub returns : goal.returns

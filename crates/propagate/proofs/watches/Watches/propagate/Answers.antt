@@ -2,7 +2,7 @@ use Rattle.std.proofs.Common.{◌≡◌, ◌≤◌, ◌/◌, ℕ, List, true, fa
 use Rattle.sat_lits.specs.declared.literal.InLit.{InLit}
 use Rattle.trail.specs.Trail.{lits_of}
 use Rattle.propagate.specs.declared.watches.Taken.{Taken}
-use Rattle.propagate.specs.Watching.{Watching, IsFront, HasTaken, steps_below}
+use Rattle.propagate.specs.Watching.{Watching, IsFront, HasTakenOver, steps_below}
 use Rattle.propagate.specs.Laws.{extends_reasoned, extends_follows}
 use Rattle.propagate.specs.Walks.{AllGood}
 use Rattle.propagate.specs.Fine.{IsLater}
@@ -131,7 +131,7 @@ returns-in-Conflict-clause-follows c =
 pub returns-in-Missed-clause-found : goal.returns-in-Missed-clause-found
 returns-in-Missed-clause-found c =
     passed_quiet c.args.store.now.held c.self.inside.taken.items c.deref-2.result.now c.deref-3.result.now c.look_fresh.new.trail.steps c.pass.new.trail.steps c.look_fresh.new.self c.pass.new.self true c.is_live-live.ensures.kept.rises
-    (subst (λ (z : List Taken). HasTaken z c.args.store.now.held) (sym (ap (λ (z : Watching). z.taken) c.self.view_is)) c.requires.taken) c.deref-2.ensures.value c.deref-3.ensures.value c.pass.ensures.watched c.in-Missed.ensures.right c.in_default.ensures.right c.pass.ensures.whole c.pass.ensures.extends
+    (subst (λ (z : List Taken). HasTakenOver z c.args.store.now.held) (sym (ap (λ (z : Watching). z.taken) c.self.view_is)) c.requires.taken) c.deref-2.ensures.value c.deref-3.ensures.value c.pass.ensures.watched c.in-Missed.ensures.right c.in_default.ensures.right c.pass.ensures.whole c.pass.ensures.extends
 
 pub returns-in-Missed-clause-extends : goal.returns-in-Missed-clause-extends
 returns-in-Missed-clause-extends c =
@@ -148,7 +148,7 @@ returns-in-Missed-clause-follows c =
 pub returns-in-Done-clause-found : goal.returns-in-Done-clause-found
 returns-in-Done-clause-found c =
     passed_quiet c.args.store.now.held c.self.inside.taken.items c.deref-2.result.now c.deref-3.result.now c.look_fresh.new.trail.steps c.pass.new.trail.steps c.look_fresh.new.self c.pass.new.self false c.is_live-live.ensures.kept.rises
-    (subst (λ (z : List Taken). HasTaken z c.args.store.now.held) (sym (ap (λ (z : Watching). z.taken) c.self.view_is)) c.requires.taken) c.deref-2.ensures.value c.deref-3.ensures.value c.pass.ensures.watched c.in-Done.ensures.right c.in_default.ensures.right c.pass.ensures.whole c.pass.ensures.extends
+    (subst (λ (z : List Taken). HasTakenOver z c.args.store.now.held) (sym (ap (λ (z : Watching). z.taken) c.self.view_is)) c.requires.taken) c.deref-2.ensures.value c.deref-3.ensures.value c.pass.ensures.watched c.in-Done.ensures.right c.in_default.ensures.right c.pass.ensures.whole c.pass.ensures.extends
 
 pub returns-in-Done-clause-extends : goal.returns-in-Done-clause-extends
 returns-in-Done-clause-extends c =

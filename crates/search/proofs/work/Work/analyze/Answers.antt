@@ -7,14 +7,15 @@ use Rattle.analyze.specs.Falsity.{has_present}
 use Rattle.search.specs.InUse.{in_use}
 use Rattle.search.specs.Ordering.{lits_ordered}
 use Rattle.analyze.specs.QuietLaws.{conflict_present}
-use Rattle.search.proofs.Conflicting.{named_live, live_among, learned_among}
+use Rattle.search.proofs.Conflicting.{live_among, learned_among}
 use Rattle.search.proofs.Orders.{lits_in_order, steps_in_order, same_just}
 use Rattle.search.proofs.Passing.{passed_as}
+use Rattle.propagate.specs.Laws.{names_live}
 use Rattle.search.proofs.work.Work.analyze.Goals as goal
 use Rattle.search.proofs.work.Work.analyze.Goals.{After-as_slice}
 
 pub lits-requires : goal.lits-requires
-lits-requires c = subst (λ (s : Store). is_live s.held c.args.conflict.0 ≡ true) (sym c.clauses-store.ensures.value) (named_live c.args.state.now.store.held c.args.conflict (false_clause c.args.self.now.trail.steps) c.requires.conflict)
+lits-requires c = subst (λ (s : Store). is_live s.held c.args.conflict.0 ≡ true) (sym c.clauses-store.ensures.value) (names_live c.args.state.now.store.held c.args.conflict (false_clause c.args.self.now.trail.steps) c.requires.conflict)
 
 pub bump_all-requires : goal.bump_all-requires
 bump_all-requires c =

@@ -12,15 +12,16 @@ use Rattle.search.specs.Assumed.{positive}
 use Rattle.search.specs.InUse.{in_use, lits_among}
 use Rattle.search.specs.Learning.{HasAdded}
 use Rattle.search.proofs.Moves.{on_err}
-use Rattle.search.proofs.Conflicting.{learned_among, named_live, live_some}
+use Rattle.search.proofs.Conflicting.{learned_among, live_some}
 use Rattle.search.proofs.Using.{lits_among_below}
 use Rattle.search.proofs.Jumping.{landed, landed_trail, jump_rises, learned_one, short_none, short_counted, short_added, added_live, added_fresh, count_exact, first_unset, first_below}
+use Rattle.propagate.specs.Laws.{names_live}
 use Rattle.search.proofs.work.Work.learn_from.Goals as goal
 use Rattle.search.proofs.work.Work.learn_from.Goals.{After-clauses, After-go_back, After-assign}
 
 -- there is a clause
 some_clause : (c : After-clauses) → 0 < length c.args.state.now.store.held
-some_clause c = live_some c.args.state.now.store.held c.args.conflict.0 (named_live c.args.state.now.store.held c.args.conflict (false_clause c.args.self.now.trail.steps) c.requires.conflict)
+some_clause c = live_some c.args.state.now.store.held c.args.conflict.0 (names_live c.args.state.now.store.held c.args.conflict (false_clause c.args.self.now.trail.steps) c.requires.conflict)
 
 -- one clause was added
 is_added : (c : After-clauses) → HasAdded c.args.state.now c.add_clause.new.state c.in_ok-learned.learned.lits c.in_ok-id.id.0

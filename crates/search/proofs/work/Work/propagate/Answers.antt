@@ -1,7 +1,7 @@
 use Rattle.std.proofs.Common.{◌≡◌, ℕ, true, sym, subst}
 use Rattle.clause_store.specs.Store.{Store}
 use Rattle.propagate.specs.Reasons.{Extends}
-use Rattle.propagate.specs.Watching.{HasTaken, clauses_below, steps_below}
+use Rattle.propagate.specs.Watching.{HasTakenOver, clauses_below, steps_below}
 use Rattle.search.specs.InUse.{in_use}
 use Rattle.search.proofs.Using.{clauses_among_below, steps_among_below}
 use Rattle.search.proofs.Going.{reached}
@@ -9,7 +9,7 @@ use Rattle.search.proofs.Propagating.{has_taken, propagated}
 use Rattle.search.proofs.work.Work.propagate.Goals as goal
 
 pub propagate-requires-clause-taken : goal.propagate-requires-clause-taken
-propagate-requires-clause-taken c = subst (λ (s : Store). HasTaken c.args.self.now.watches.taken s.held) (sym c.clauses.ensures.value) (has_taken c.args.state.now c.args.self.now c.requires.tables)
+propagate-requires-clause-taken c = subst (λ (s : Store). HasTakenOver c.args.self.now.watches.taken s.held) (sym c.clauses.ensures.value) (has_taken c.args.state.now c.args.self.now c.requires.tables)
 
 pub propagate-requires-clause-reserved : goal.propagate-requires-clause-reserved
 propagate-requires-clause-reserved c =

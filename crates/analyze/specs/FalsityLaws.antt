@@ -39,31 +39,3 @@ gone_unset t k b l e f h = false_from_ne_true _ (λ (g : set_in (back_to b t) l.
     (λ s c d. let p : (eqb s.lit.var.0 l.var.0 ≡ true) × (leb s.level b ≡ true) = and_parts _ _ d in
     ⊎_elim (λ (x : not (eqb s.lit.var.0 l.var.0) ≡ true). both_ways _ (not-true _ x) p.0)
     (λ (x : eqb s.level k ≡ true). let y : s.level ≡ k = eqb-true _ _ x in let z : s.level ≤ b = leb-true _ _ p.1 in absurd (omega arith)) (or_cases _ _ c)))
-
--- the way back leaves a trail reasoned
-pub back_reasoned : (held : List Held) (t : List Step) (k : ℕ) → shaped t ≡ true → reasoned held t ≡ true → reasoned held (back_to k t) ≡ true
-back_reasoned held [] k e r = refl
-back_reasoned held (s ∷ older) k e r =
-    let p : (shaped_step older s ≡ true) × (shaped older ≡ true) = and_parts _ _ e in
-    let q : (has_reason held older s s.reason ≡ true) × (reasoned held older ≡ true) = and_parts _ _ r in
-    ⊎_elim (λ (a : k < s.level). subst (λ (z : List Step). reasoned held z ≡ true) (sym (back_past older s k a)) (back_reasoned held older k p.1 q.1))
-    (λ (a : s.level ≤ k). subst (λ (z : List Step). reasoned held z ≡ true) (sym (back_nowhere (s ∷ older) k e a)) r) (cases_lt k s.level)
-
-names_more : (held : List Held) (h : Held) (k : ClauseId) (test : List InLit → Bool) → names held k test ≡ true → names (held ++ h ∷ []) k test ≡ true
-names_more [] h k test e = absurd (false≢true e)
-names_more (g ∷ held) h k test e = go (eqb g.id k.0) e (λ (f : names held k test ≡ true). names_more held h k test f)
-  where
-    go : (b : Bool) → passes test (cond b (Some g) (clause_at held k.0)) ≡ true → (names held k test ≡ true → names (held ++ h ∷ []) k test ≡ true) → passes test (cond b (Some g) (clause_at (held ++ h ∷ []) k.0)) ≡ true
-    go true f r = f
-    go false f r = r f
-
--- a clause that is added leaves a trail reasoned
-pub reasoned_more : (held : List Held) (h : Held) (t : List Step) → reasoned held t ≡ true → reasoned (held ++ h ∷ []) t ≡ true
-reasoned_more held h [] e = refl
-reasoned_more held h (s ∷ older) e =
-    let p : (has_reason held older s s.reason ≡ true) × (reasoned held older ≡ true) = and_parts _ _ e in
-    and_from _ _ (step s.reason p.0) (reasoned_more held h older p.1)
-  where
-    step : (r : Option ClauseId) → has_reason held older s r ≡ true → has_reason (held ++ h ∷ []) older s r ≡ true
-    step None e = e
-    step (Some k) e = names_more held h k (gives older s.lit) e
