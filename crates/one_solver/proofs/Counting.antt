@@ -1,5 +1,5 @@
 -- The conflicts of a call.
-use Rattle.std.proofs.Common.{◌≡◌, ℕ, zero, suc, ◌+◌, ◌-◌, ◌^◌, ◌<◌, ◌≤◌, Bool, true, false, cond, List, [], ◌∷◌, Option, Some, None, refl, sym, ap, subst, ◌∙◌, ⊎_elim, length, map, sum, option_map, arith, rules, add-one, IfSome, ltb, ltb-true}
+use Rattle.std.proofs.Common.{◌≡◌, ℕ, zero, suc, ◌+◌, ◌-◌, ◌^◌, ◌<◌, ◌≤◌, Bool, true, false, cond, [], Option, Some, None, refl, sym, ap, subst, ◌∙◌, ⊎_elim, length, map, sum, option_map, arith, rules, add-one, IfSome, ltb, ltb-true}
 use Rattle.std.specs.List.{range_with_len}
 use Rattle.std.specs.Option.{is_some}
 use Rattle.std.proofs.Math.Nat.{pow-le-pow_right}
@@ -10,32 +10,22 @@ use Rattle.sat_lits.specs.Conflicts.{own_count, interval_len, intervals_len, int
 use Rattle.sat_lits.specs.ConflictLaws.{intervals_count, intervals_len_sum}
 use Rattle.sat_lits.specs.Verdicts.{IsFailed}
 use Rattle.sat_lits.specs.Meaning.{Problem}
-use Rattle.sat_lits.specs.declared.literal.Own.{Own}
 use Rattle.analyze.specs.Counting.{saturated}
-use Rattle.var_maps.specs.Maps.{Matched}
 use Rattle.state_laws.specs.State.{problem_of}
 use Rattle.state_laws.specs.Kernel.{Kernel, state_of, Standing}
-use Rattle.search.specs.InUse.{owned_from, in_use}
 use Rattle.search.specs.Answers.{own_length, IsBelow}
 use Rattle.one_solver.specs.declared.answer.StepAnswer.{StepAnswer}
 use Rattle.one_solver.specs.declared.answer.StepAnswer.TheVariants.{Verdict, IntervalOver, Spent, Asked, Memory}
 use Rattle.one_solver.specs.Basic.{IsBasic}
 use Rattle.one_solver.specs.Parts.{Parts, problem_in}
-use Rattle.one_solver.specs.Steps.{IsUnderWay, EndsInterval, SpendsLimit, StepsRight, IsOverOrNone, HasNoModel}
+use Rattle.one_solver.specs.Steps.{IsUnderWay, IsTidy, EndsInterval, SpendsLimit, StepsRight, IsOverOrNone, HasNoModel}
 use Rattle.one_solver.proofs.Taking.{outer_length}
 
--- no more numbers are in use than there are places
-owned_few : (n : ℕ) (xs : List (Option Own)) → length (owned_from n xs) ≤ length xs
-owned_few n [] = omega arith
-owned_few n (None ∷ xs) = let r : length (owned_from (suc n) xs) ≤ length xs = owned_few (suc n) xs in omega arith
-owned_few n (Some v ∷ xs) = let r : length (owned_from (suc n) xs) ≤ length xs = owned_few (suc n) xs in omega arith
-
--- no more variables are active than the items may come to have
-pub active_few : (k : Kernel) → Matched k.maps → Standing k → IsBasic k → length (in_use k.maps) ≤ own_count (problem_of (state_of k))
-active_few k m s b =
-    let a : length (in_use k.maps) ≤ length k.maps.owners = owned_few 0 k.maps.owners in
+-- there are no more own variables than the items may come to have
+pub own_few : (k : Kernel) → Standing k → IsBasic k → length k.maps.inners ≤ own_count (problem_of (state_of k))
+own_few k s b =
     let d : length (map is_some k.maps.inners) ≡ length k.definitions = s.stands.places.lengths in
-    omega (arith, m.inner_len, length-map k.maps.inners is_some, outer_length k b)
+    omega (arith, length-map k.maps.inners is_some, outer_length k b)
 
 -- one interval more adds its length
 longer : (n : ℕ) → intervals_len (suc n) ≡ intervals_len n + interval_len n
@@ -108,15 +98,18 @@ in_range i h = let l : intervals_len i ≤ intervals_len 1048576 = no_fewer i 10
 
 -- an interval was made whole
 pub ends : (old new : Parts) (limit : Option ℕ) (c a : ℕ) → IsUnderWay old → IfSome limit (λ m. old.conflicts ≤ m) → own_length old.interval ≡ Some c → IsBelow c (option_map (λ m. m - old.conflicts) limit)
-    → c < 3 ^ a → a ≤ own_count (problem_in old) → new.conflicts ≡ saturated old.conflicts c → new.interval ≡ old.interval + 1 → problem_in new ≡ problem_in old → EndsInterval old new limit
-ends old new limit c a u w own below few active t next same = record {
+    → c < 3 ^ a → a ≤ own_count (problem_in old) → new.conflicts ≡ saturated old.conflicts c → IsTidy old.interval new → problem_in new ≡ problem_in old → EndsInterval old new limit
+ends old new limit c a u w own below few active t tidy same = record {
   under_way = record { counted = counted; few = (let l : old.interval < 2 ^ 20 = first.0 in omega arith); short = short };
   counted = more;
-  next = next;
   few = first.0;
+  tidy = tidy;
   within = subst (λ (n : ℕ). IfSome limit (λ m. n < m)) (sym sum) (left_below limit old.conflicts c below w);
 }
   where
+    next : new.interval ≡ old.interval + 1
+    next = tidy.next
+
     first : (old.interval < 2 ^ 20) × (c ≡ interval_len old.interval)
     first = own_interval old.interval c own
 

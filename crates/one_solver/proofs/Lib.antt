@@ -1,6 +1,7 @@
 pub mod Walking
 pub mod Fixing
 pub mod Forgetting
+pub mod Keeping
 pub mod Taking
 pub mod Refuting
 pub mod Counting

@@ -7,7 +7,7 @@ use Rattle.std.proofs.lemmas.List.{length-append, length-replicate, take-append-
 use Rattle.std.proofs.lemmas.List.Folds.{list_all-append}
 use Rattle.std.proofs.Math.Seq.{drop-append_seam}
 use Rattle.sat_lits.specs.Meaning.{Problem}
-use Rattle.sat_lits.specs.Formulas.{Extends, names_known}
+use Rattle.sat_lits.specs.Formulas.{Extends, names_known, no_problem}
 use Rattle.sat_lits.specs.FollowLaws.{Extends_itself}
 use Rattle.sat_lits.specs.declared.literal.Lit.{Lit}
 use Rattle.sat_lits.specs.declared.literal.OwnLit.{OwnLit}
@@ -24,7 +24,7 @@ use Rattle.state_laws.specs.State.{State, outers_from, outer_count, to_own, prob
 use Rattle.state_laws.specs.Moves.{grown}
 use Rattle.state_laws.specs.Kernel.{Kernel, state_of}
 use Rattle.private_state.specs.Taking.{IsTakable}
-use Rattle.one_solver.specs.Basic.{is_clause, no_problem, IsBasic}
+use Rattle.one_solver.specs.Basic.{is_clause, IsBasic}
 use Rattle.one_solver.specs.Taken.{HasTaken}
 
 -- where no variable was taken out, no literal is lost
@@ -109,6 +109,14 @@ took_all f g n more v e h =
 
 pub took_front : (f : Problem) (g n : Kernel) (more : List Item) → outer_count g.definitions ≡ f.vars → f.items ≡ g.items ++ more → HasTaken g n more → Extends (problem_of (state_of n)) f
 took_front f g n more v e h = subst (λ (x : Problem). Extends x f) (sym (took_all f g n more v e h)) (Extends_itself f)
+
+-- what was taken goes on from what was taken before
+pub took_longer : (f : Problem) (k g n : Kernel) (more : List Item) → outer_count g.definitions ≡ f.vars → outer_count k.definitions ≤ f.vars → g.items ≡ k.items → HasTaken g n more → Extends (problem_of (state_of k)) (problem_of (state_of n))
+took_longer f k g n more v w e h = record {
+  vars = omega (arith, v, ap (λ (z : List (Option Definition)). outer_count z) h.definitions);
+  more = more;
+  items = h.items ∙ ap (λ z. z ++ more) e;
+}
 
 -- what took nothing took a front of every formula
 pub nothing_front : (taken f : Problem) → taken ≡ no_problem → Extends taken f

@@ -1,7 +1,6 @@
 -- What one solver takes so far, and what it does not do yet.
 use Rattle.std.specs.Prelude.{◌≡◌, Bool, true, false, not, [], is_none}
 use Rattle.std.specs.List.{list_all}
-use Rattle.sat_lits.specs.Meaning.{Problem}
 use Rattle.sat_lits.specs.declared.formula.Item.{Item}
 use Rattle.sat_lits.specs.declared.formula.Item.TheVariants.{Clause, Parity}
 use Rattle.rebuild_stack.specs.Entries.{is_gone}
@@ -11,10 +10,6 @@ use Rattle.state_laws.specs.Kernel.{Kernel}
 abbrev pub is_clause : Item → Bool
 is_clause (Clause lits) = true
 is_clause (Parity vars rhs) = false
-
--- the formula without variables and items
-abbrev pub no_problem : Problem
-no_problem = record { vars = 0; items = [] }
 
 -- a private state that took clauses alone and no shared ones, made no private variable, and took no variable out
 pub record IsBasic (k : Kernel) : Type 0 where

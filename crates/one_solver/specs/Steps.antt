@@ -1,5 +1,5 @@
 -- The intervals of a call, and what each comes to.
-use Rattle.std.specs.Prelude.{◌≡◌, ℕ, ◌+◌, ◌^◌, ◌<◌, ◌≤◌, Bool, false, List, [], Some, IfSome}
+use Rattle.std.specs.Prelude.{◌≡◌, ℕ, ◌+◌, ◌*◌, ◌^◌, ◌<◌, ◌≤◌, Bool, true, false, List, [], Some, IfSome}
 use Rattle.std.specs.declared.option.Option.{Option}
 use Rattle.sat_lits.specs.Conflicts.{own_count, interval_len, intervals_len, enough}
 use Rattle.sat_lits.specs.Meaning.{Problem, IsModel}
@@ -7,6 +7,8 @@ use Rattle.sat_lits.specs.Verdicts.{IsRight}
 use Rattle.sat_lits.specs.declared.verdict.Verdict.TheVariants as verdict
 use Rattle.sat_ports.specs.Causes.{Rose}
 use Rattle.one_solver.specs.Parts.{Parts, problem_in}
+use Rattle.one_solver.specs.Units.{HasNoUnits}
+use Rattle.one_solver.specs.Learned.{HasFewLong}
 use Rattle.one_solver.specs.declared.answer.StepAnswer.{StepAnswer}
 use Rattle.one_solver.specs.declared.answer.StepAnswer.TheVariants.{Verdict, IntervalOver, Spent, Asked, Memory}
 
@@ -16,12 +18,18 @@ pub record IsUnderWay (s : Parts) : Type 0 where
   pub few : s.interval ≤ 2 ^ 20
   pub short : (j : ℕ) → j < s.interval → interval_len j < 3 ^ own_count (problem_in s)
 
--- an interval was made whole, below the limit, and the next one follows
+-- after an interval the next one follows, a solver that is okay has no clause of one literal, and at most so many long learned clauses are left
+pub record IsTidy (interval : ℕ) (s : Parts) : Type 0 where
+  pub next : s.interval ≡ interval + 1
+  pub units : s.kernel.okay ≡ true → HasNoUnits s.kernel
+  pub few_long : HasFewLong (2000 + 100 * interval) s.kernel
+
+-- an interval was made whole, below the limit, and the solver is tidy for the next one
 pub record EndsInterval (old new : Parts) (limit : Option ℕ) : Type 0 where
   pub under_way : IsUnderWay new
   pub counted : new.conflicts ≡ old.conflicts + interval_len old.interval
-  pub next : new.interval ≡ old.interval + 1
   pub few : old.interval < 2 ^ 20
+  pub tidy : IsTidy old.interval new
   pub within : IfSome limit (λ most. new.conflicts < most)
 
 -- the conflicts of the call are the limit, which is less than enough
@@ -30,12 +38,17 @@ pub record SpendsLimit (old new : Parts) (limit : Option ℕ) (count : ℕ) : Ty
   pub conflicts : new.conflicts ≡ count
   pub few : count < enough (own_count (problem_in old))
 
+-- a stop was asked for, below the limit
+pub record IsAsked (new : Parts) (limit : Option ℕ) (before now : ℕ) : Type 0 where
+  pub rose : Rose before now
+  pub within : IfSome limit (λ most. new.conflicts < most)
+
 -- an answer is a right verdict, or it comes at the right number of conflicts, or a stop was asked for
 abbrev pub StepsRight : Parts → Parts → Option ℕ → ℕ → ℕ → StepAnswer → Type 0
 StepsRight old new limit before now (Verdict v) = IsRight (problem_in old) [] v
 StepsRight old new limit before now IntervalOver = EndsInterval old new limit
 StepsRight old new limit before now (Spent count) = SpendsLimit old new limit count
-StepsRight old new limit before now Asked = Rose before now
+StepsRight old new limit before now Asked = IsAsked new limit before now
 StepsRight old new limit before now Memory = Unit {0}
 
 -- no assignment satisfies every item

@@ -1,6 +1,6 @@
-ghost use Rattle.std.specs.Prelude.{◌≡◌, OnErr, IsTrue};
-ghost use Rattle.clause_store.specs.Store.{is_live};
-ghost use Rattle.one_solver.specs.Learned.{is_long_at, HasForgotten};
+ghost use Rattle.std.specs.Prelude.{◌≡◌, map, filter, IfOk, OnOk, OnErr, IsTrue};
+ghost use Rattle.clause_store.specs.Store.{IsKept, is_live};
+ghost use Rattle.one_solver.specs.Learned.{is_long, is_long_at, HasForgotten, KeepsNewest};
 
 use clause_store::ClauseStore;
 use private_state::PrivateState;
@@ -12,12 +12,13 @@ use std::alloc::Global;
 /// then.
 pub fn forget_old(alloc: Global, state: &mut PrivateState, keep: usize) -> Result<(), NoMemory>
     ensures forgotten { HasForgotten state.old state.new }
+    ensures newest { OnOk result (KeepsNewest keep state.old.store.held state.new.store.held) }
     ensures err { OnErr result (state.new ≡ state.old) }
 {
     let ids = long_learned(alloc, state.clauses())?;
     let old = ids.len().saturating_sub(keep);
     for id in &ids[..old] {
-        forget(state, *id);
+        state.drop_learned(*id);
     }
     if old > 0 {
         state.compact();
@@ -25,17 +26,11 @@ pub fn forget_old(alloc: Global, state: &mut PrivateState, keep: usize) -> Resul
     Ok(())
 }
 
-/// Drops a clause if it is a learned one that is held.
-fn forget(state: &mut PrivateState, id: ClauseId)
-    ensures { HasForgotten state.old state.new }
-{
-    if state.clauses().is_live(id) && state.clauses().is_learned(id) {
-        state.drop_learned(id);
-    }
-}
-
 /// The ids of the learned clauses of more than two literals, oldest first.
-fn long_learned(alloc: Global, store: &ClauseStore) -> Result<Vec<ClauseId>, NoMemory> {
+fn long_learned(alloc: Global, store: &ClauseStore) -> Result<Vec<ClauseId>, NoMemory>
+    ensures ids { IfOk result (λ ids. map (λ id. id.0) ids.items ≡ map (λ clause. clause.id) (filter is_long store.now.held)) }
+    ensures kept { IsKept store.now }
+{
     let mut ids = Vec::new(alloc);
     let mut at = store.first();
     'walk: while let Some(id) = at {

@@ -1,19 +1,18 @@
-ghost use Rattle.std.specs.Prelude.{◌≡◌, ◌+◌, ◌-◌, ◌<◌, ◌≤◌, ◌^◌, [], false, true, length, option_map, IfSome, OnOk, IsTrue};
+ghost use Rattle.std.specs.Prelude.{◌≡◌, ◌≢◌, ◌-◌, ◌<◌, ◌≤◌, ◌^◌, [], false, true, length, option_map, IfSome, OnOk, IsTrue};
 ghost use Rattle.std.specs.List.{list_all};
-ghost use Rattle.sat_lits.specs.Conflicts.{own_count};
-ghost use Rattle.sat_lits.specs.Formulas.{Extends};
+ghost use Rattle.sat_lits.specs.Formulas.{Extends, no_problem};
 ghost use Rattle.sat_lits.specs.Truth.{clauses_value};
 ghost use Rattle.sat_lits.specs.declared.verdict.Verdict.TheVariants.{Unsat};
 ghost use Rattle.clause_store.specs.Store.{hard_of};
 ghost use Rattle.state_laws.specs.Held.{in_value};
 ghost use Rattle.state_laws.specs.Conditions.{IsContradicted};
-ghost use Rattle.state_laws.specs.Kernel.{Standing, state_of};
-ghost use Rattle.search.specs.InUse.{in_use};
+ghost use Rattle.state_laws.specs.Kernel.{state_of};
 ghost use Rattle.analyze.specs.Counting.{saturated};
-ghost use Rattle.one_solver.specs.Basic.{is_clause, no_problem, IsBasic};
+ghost use Rattle.one_solver.specs.Basic.{is_clause};
+ghost use Rattle.one_solver.specs.Learned.{HasFewLong};
 ghost use Rattle.one_solver.specs.Parts.{problem_in, SameCall};
 ghost use Rattle.one_solver.specs.Units.{FixesUnits, HasNoUnits};
-ghost use Rattle.one_solver.specs.Steps.{IsUnderWay, StepsRight, IsRefuted, HasNoModel, IsModelOrNone, IsOverOrNone};
+ghost use Rattle.one_solver.specs.Steps.{IsUnderWay, StepsRight, IsTidy, IsRefuted, HasNoModel, IsModelOrNone, IsOverOrNone};
 
 use crate::answer::StepAnswer;
 use crate::learned::forget_old;
@@ -79,15 +78,15 @@ impl OneSolver {
         }
     }
 
-    /// Grows to the formula's number of variables, at most 2^31, and takes its items from `taken`
-    /// on. They are clauses, and those that were taken are the formula's first ones. The only error is want of
-    /// memory: then some of the items may be taken.
+    /// Grows to the formula's number of variables, and takes its items from `taken` on. They are
+    /// clauses, and those that were taken are the formula's first ones. The only error is want of
+    /// memory: then some of the items may be taken, in order, and none that was taken is lost.
     pub fn absorb(&mut self, formula: &Formula) -> Result<(), NoMemory>
         requires front { Extends (problem_in self.old) formula.now.problem }
-        requires few { formula.now.problem.vars ≤ 2 ^ 31 }
         requires clauses { IsTrue (list_all is_clause formula.now.problem.items) }
         ensures ok { OnOk result (problem_in self.new ≡ formula.now.problem) }
         ensures front { Extends (problem_in self.new) formula.now.problem }
+        ensures longer { Extends (problem_in self.old) (problem_in self.new) }
         ensures same { SameCall self.old self.new }
         ensures okay { self.new.kernel.okay ≡ self.old.kernel.okay }
     {
@@ -117,10 +116,15 @@ impl OneSolver {
     ///
     /// A verdict is right for the items taken; where the solver is not okay, it is `Unsat` of the
     /// empty list. `IntervalOver` comes exactly where the interval made its full number of
-    /// conflicts without another answer, and the next interval is one longer. `Spent` comes exactly
-    /// where the conflicts of the call equal the limit without a verdict, and only where the limit
-    /// is less than the number of conflicts that is enough for the items taken. `Asked` comes only
-    /// where the count of `stop` rose in this call.
+    /// conflicts without another answer, and the next interval is one longer. Then no clause of one
+    /// literal is held in a solver that is okay, and the newest 2000 learned clauses of more than
+    /// two literals are left, and 100 more for each earlier interval of the call. `Spent` comes
+    /// exactly where the conflicts of the call equal the limit without a verdict, and only where the
+    /// limit is less than the number of conflicts that is enough for the items taken. `Asked` comes
+    /// only below the limit, where the count of `stop` rose in this call.
+    ///
+    /// The conflicts of the call never exceed the limit, and after any answer but `IntervalOver` the
+    /// same interval comes next.
     pub fn step<S: Alarm>(&mut self, limit: Option<u64>, stop: &mut S) -> StepAnswer
         requires under_way { IsUnderWay self.old }
         requires within { IfSome limit (λ most. self.old.conflicts ≤ most) }
@@ -128,9 +132,12 @@ impl OneSolver {
         ensures refuted { IsRefuted self.old result }
         ensures problem { problem_in self.new ≡ problem_in self.old }
         ensures number { self.new.number ≡ self.old.number }
+        ensures interval { result ≢ StepAnswer.IntervalOver → self.new.interval ≡ self.old.interval }
         ensures more { self.old.conflicts ≤ self.new.conflicts }
+        ensures within { IfSome limit (λ most. self.new.conflicts ≤ most) }
+        ensures stop { S.kept stop.old stop.new }
+        ensures later { S.raises stop.old ≤ S.raises stop.new }
     {
-        self.stands();
         if !self.state.okay() {
             return StepAnswer::Verdict(Verdict::Unsat(List::new(self.alloc)));
         }
@@ -189,19 +196,7 @@ impl OneSolver {
         ensures value { result ≡ self.now.kernel.okay }
         ensures right { result ≡ false → HasNoModel (problem_in self.now) }
     {
-        self.state.stands();
         self.state.okay()
-    }
-
-    /// Hands to proofs that the state stands, and that no more variables are active than the items
-    /// may come to have. It does nothing when it runs.
-    fn stands(&self)
-        ensures standing { Standing self.now.kernel }
-        ensures basic { IsBasic self.now.kernel }
-        ensures active { length (in_use self.now.kernel.maps) ≤ own_count (problem_in self.now) }
-    {
-        self.state.stands();
-        let _len = self.state.maps().inner_len();
     }
 
     /// Answers a model, rebuilt from values of the inner numbers that satisfy the hard clauses.
@@ -226,7 +221,6 @@ impl OneSolver {
         ensures problem { problem_in self.new ≡ problem_in self.old }
     {
         self.state.refute();
-        self.state.stands();
         StepAnswer::Verdict(Verdict::Unsat(List::new(self.alloc)))
     }
 
@@ -234,21 +228,26 @@ impl OneSolver {
     fn end_interval(&mut self) -> StepAnswer
         requires { self.old.interval < 2 ^ 20 }
         ensures answer { IsOverOrNone result }
-        ensures next { result ≡ StepAnswer.IntervalOver → self.new.interval ≡ self.old.interval + 1 }
+        ensures over { result ≡ StepAnswer.IntervalOver → IsTidy self.old.interval self.new }
+        ensures interval { result ≢ StepAnswer.IntervalOver → self.new.interval ≡ self.old.interval }
         ensures conflicts { self.new.conflicts ≡ self.old.conflicts }
         ensures problem { problem_in self.new ≡ problem_in self.old }
         ensures number { self.new.number ≡ self.old.number }
     {
         let keep = KEPT + KEPT_MORE * self.interval;
-        self.interval += 1;
         match self.tidy(keep as usize) {
-            Ok(()) => StepAnswer::IntervalOver,
+            Ok(()) => {
+                self.interval += 1;
+                StepAnswer::IntervalOver
+            }
             Err(NoMemory) => StepAnswer::Memory,
         }
     }
 
     /// Fixes the literals of the clauses of one literal, and keeps so many long learned clauses.
     fn tidy(&mut self, keep: usize) -> Result<(), NoMemory>
+        ensures units { OnOk result (IsTrue self.new.kernel.okay → HasNoUnits self.new.kernel) }
+        ensures few { OnOk result (HasFewLong keep self.new.kernel) }
         ensures same { self.new ≡ record self.old { kernel = self.new.kernel } }
         ensures problem { problem_in self.new ≡ problem_in self.old }
     {

@@ -1,4 +1,4 @@
-ghost use Rattle.std.specs.Prelude.{◌≡◌, ◌≤◌, ◌^◌, ℕ, take, OnOk, IsTrue};
+ghost use Rattle.std.specs.Prelude.{◌≡◌, ℕ, take, OnOk, IsTrue};
 ghost use Rattle.std.specs.List.{list_all};
 ghost use Rattle.sat_lits.specs.Formulas.{Extends, names_known};
 ghost use Rattle.state_laws.specs.State.{outer_count, problem_of};
@@ -13,11 +13,11 @@ use sat_lits::{Formula, Item, NoMemory};
 pub fn take_formula(state: &mut PrivateState, formula: &Formula) -> Result<(), NoMemory>
     requires basic { IsBasic state.old }
     requires front { Extends (problem_of (state_of state.old)) formula.now.problem }
-    requires few { formula.now.problem.vars ≤ 2 ^ 31 }
     requires clauses { IsTrue (list_all is_clause formula.now.problem.items) }
     ensures basic { IsBasic state.new }
     ensures ok { OnOk result (problem_of (state_of state.new) ≡ formula.now.problem) }
     ensures front { Extends (problem_of (state_of state.new)) formula.now.problem }
+    ensures longer { Extends (problem_of (state_of state.old)) (problem_of (state_of state.new)) }
     ensures okay { state.new.okay ≡ state.old.okay }
 {
     state.grow(formula.vars())?;

@@ -61,7 +61,6 @@ fn fix_each(state: &mut PrivateState) -> Result<bool, NoMemory>
     let mut fixed = false;
     let mut at = state.clauses().first();
     'units: loop {
-        state.stands();
         match find_short(state.clauses(), at) {
             Short::Empty => {
                 state.refute();

@@ -77,7 +77,8 @@ impl PrivateState {
 
     /// Whether the state was not refuted.
     pub fn okay(&self) -> bool
-        ensures { result ≡ self.now.okay }
+        ensures value { result ≡ self.now.okay }
+        ensures standing { Standing self.now }
     {
         self.okay
     }
@@ -123,14 +124,16 @@ impl PrivateState {
 
     /// The numbers of the variables.
     pub fn maps(&self) -> &VarMaps
-        ensures { result.now ≡ self.now.maps }
+        ensures value { result.now ≡ self.now.maps }
+        ensures standing { Standing self.now }
     {
         &self.maps
     }
 
     /// The clauses that are held, in inner literals.
     pub fn clauses(&self) -> &ClauseStore
-        ensures { result.now ≡ self.now.store }
+        ensures value { result.now ≡ self.now.store }
+        ensures standing { Standing self.now }
     {
         self.store.store()
     }
@@ -140,13 +143,6 @@ impl PrivateState {
         ensures { result.now ≡ self.now.stack }
     {
         self.removed.stack()
-    }
-
-    /// Hands to callers' proofs that the state stands. It does nothing when it runs.
-    pub fn stands(&self)
-        ensures { Standing self.now }
-    {
-        let _ = &self.okay;
     }
 
     /// Adds outer variables, active, until there are `vars`; with fewer it changes nothing. The
@@ -281,7 +277,8 @@ impl PrivateState {
     /// Makes the state not okay. The hard and the learned clauses have no solution.
     pub fn refute(&mut self)
         requires { IsContradicted (state_of self.old) }
-        ensures { self.new ≡ record self.old { okay = false } }
+        ensures value { self.new ≡ record self.old { okay = false } }
+        ensures standing { Standing self.new }
     {
         self.okay = false;
     }

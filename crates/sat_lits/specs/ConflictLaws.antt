@@ -1,10 +1,14 @@
 -- Facts on the numbers of conflicts.
-use Rattle.std.proofs.Common.{◌≡◌, ◌⊎◌, inl, inr, ℕ, zero, suc, ◌+◌, ◌-◌, ◌*◌, ◌/◌, ◌^◌, ◌<◌, ◌≤◌, min, sum, map, refl, sym, ap, ◌∙◌, arith, add-one, ⊎_elim}
+use Rattle.std.proofs.Common.{◌≡◌, ◌⊎◌, inl, inr, ℕ, zero, suc, ◌+◌, ◌-◌, ◌*◌, ◌/◌, ◌^◌, ◌<◌, ◌≤◌, min, sum, map, List, [], ◌∷◌, length, refl, sym, ap, ◌∙◌, arith, add-one, ⊎_elim}
 use Rattle.std.specs.List.{range_with_len}
 use Rattle.std.proofs.Math.Nat.{mul_assoc, mul-suc, suc-mul}
 use Rattle.std.proofs.lemmas.Bool.{cases_lt}
+use Rattle.std.proofs.lemmas.List.Sums.{sum_by-cons}
 use Rattle.std.proofs.lemmas.List.FromFn.{sum_by-map-range_with_len_more}
-use Rattle.sat_lits.specs.Conflicts.{interval_len, intervals_len, IntervalsCount, LastIsLong}
+use Rattle.sat_lits.specs.ParityLaws.{few_cuts}
+use Rattle.sat_lits.specs.Formulas.{Bounded, IsWithinLimits, lit_count, numbers_of}
+use Rattle.sat_lits.specs.Conflicts.{cuts, own_count, interval_len, intervals_len, IntervalsCount, LastIsLong}
+use Rattle.sat_lits.specs.declared.formula.Item.{Item}
 
 -- the closed form at two neighbouring numbers, with the products written out
 products : (n m : ℕ) → m ≡ suc n → 100 * suc m + 10 * suc m * m ≡ (100 * m + 10 * m * n) + (100 + 20 * m)
@@ -58,3 +62,12 @@ intervals_len_sum (suc count) =
     more count
     ∙ (ap (λ n. n + interval_len count) (intervals_len_sum count)
     ∙ (sym (sum_by-map-range_with_len_more (λ n. n) interval_len 0 count count (omega arith)) ∙ ap (λ n. sum (map interval_len (range_with_len 0 n))) (add-one count)))
+
+-- half of the literals is at least the number of cuts
+few_in_all : (items : List Item) → 2 * sum (map cuts items) ≤ lit_count items
+few_in_all [] = omega arith
+few_in_all (item ∷ items) = omega (arith, few_cuts item, few_in_all items, sum_by-cons (λ (n : ℕ). n) (cuts item) (map cuts items), sum_by-cons (λ (i : Item). length (numbers_of i)) item items)
+
+-- a solver of a formula within limits comes to have fewer than 2 ^ 25 variables
+pub own_count-few : (f : Bounded) → IsWithinLimits f → own_count f.problem < 2 ^ 25
+own_count-few f w = omega (arith, few_in_all f.problem.items, w.few_vars, w.few_lits, w.standard.vars_fit, w.standard.lits_fit)

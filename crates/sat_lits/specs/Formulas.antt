@@ -2,7 +2,7 @@
 use Rattle.std.specs.Prelude.{◌≡◌, ℕ, ◌+◌, ◌≤◌, Bool, true, List, [], ◌∷◌, ◌++◌, length, map, sum_by, find, nat_lt, nat_le}
 use Rattle.std.specs.declared.option.Option.{Option}
 use Rattle.std.specs.List.{list_all}
-use Rattle.sat_lits.specs.Limits.{LimitNumbers}
+use Rattle.sat_lits.specs.Limits.{LimitNumbers, IsWithinStandard}
 use Rattle.sat_lits.specs.Meaning.{Problem}
 use Rattle.sat_lits.specs.declared.formula.Item.{Item}
 use Rattle.sat_lits.specs.declared.formula.Item.TheVariants.{Clause, Parity}
@@ -37,11 +37,16 @@ names_known vars item = list_all (λ n. nat_lt n vars) (numbers_of item)
 abbrev pub lit_count : List Item → ℕ
 lit_count items = sum_by (λ item. length (numbers_of item)) items
 
--- its numbers are within its limits, and its items name its variables alone
+-- the formula without variables and items
+abbrev pub no_problem : Problem
+no_problem = record { vars = 0; items = [] }
+
+-- its numbers are within its limits, these are within the standard ones, and its items name its variables alone
 pub record IsWithinLimits (f : Bounded) : Type 0 where
   pub few_vars : f.problem.vars ≤ f.limits.vars
   pub few_lits : lit_count f.problem.items ≤ f.limits.lits
   pub known : list_all (names_known f.problem.vars) f.problem.items ≡ true
+  pub standard : IsWithinStandard f.limits
 
 -- the new formula has the old one's items first, and no fewer variables
 pub record Extends (old new : Problem) : Type 0 where

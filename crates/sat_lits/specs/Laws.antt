@@ -36,6 +36,7 @@ with_vars-IsWithinLimits f limits more w h =
       few_vars = h;
       few_lits = w.few_lits;
       known = all_mono (names_known f.vars) (names_known (f.vars + more)) (λ item k. names_known_more f.vars (f.vars + more) item (omega arith) k) f.items w.known;
+      standard = w.standard;
     }
 
 -- and an item over the variables that are there, while its literals are within the limit
@@ -46,4 +47,5 @@ with_item-IsWithinLimits f limits item w known few =
       few_vars = w.few_vars;
       few_lits = omega (arith, few, lit_count-push f.items item);
       known = all_push (names_known f.vars) f.items item w.known known;
+      standard = w.standard;
     }

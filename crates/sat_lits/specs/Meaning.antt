@@ -1,5 +1,5 @@
 -- What clauses, parities and formulas mean.
-use Rattle.std.specs.Prelude.{◌≡◌, ℕ, ◌%◌, ◌==◌, Bool, true, false, List, slice_index_or, length, count_by}
+use Rattle.std.specs.Prelude.{◌≡◌, ℕ, ◌%◌, ◌==◌, Bool, true, false, not, List, slice_index_or, length, count_by}
 use Rattle.std.specs.Bool.{beq}
 use Rattle.std.specs.List.{list_all}
 use Rattle.sat_lits.specs.Truth.{signed, clause_value}
@@ -15,6 +15,10 @@ value_of values v = slice_index_or values v.0 false
 -- a positive literal has its variable's value, a negative one the opposite
 abbrev pub is_true : List Bool → Lit → Bool
 is_true values l = signed l.negative (value_of values l.var)
+
+-- the literal that is true where this one is false
+abbrev pub negated : Lit → Lit
+negated l = record { var = l.var; negative = not l.negative }
 
 -- whether the number of true variables is odd, where each counts as often as it stands
 abbrev pub is_odd : List Bool → List Var → Bool

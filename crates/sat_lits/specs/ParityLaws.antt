@@ -1,19 +1,22 @@
 -- Facts on parities, and on the variables that stand an odd number of times.
-use Rattle.std.proofs.Common.{◌≡◌, ◌≢◌, ◌↔◌, ℕ, suc, ◌+◌, ◌%◌, ◌<◌, Bool, true, false, not, cond, ◌&&◌, ◌||◌, ◌==◌, List, [], ◌∷◌, ◌++◌, All, Some, length, filter, get_or, refl, sym, ap, ◌∙◌, arith}
+use Rattle.std.proofs.Common.{◌≡◌, ◌≢◌, ◌↔◌, ℕ, suc, ◌+◌, ◌*◌, ◌%◌, ◌<◌, ◌≤◌, Bool, true, false, not, cond, ◌&&◌, ◌||◌, ◌==◌, List, [], ◌∷◌, ◌++◌, All, Some, length, filter, get_or, refl, sym, ap, ◌∙◌, arith}
 use Rattle.std.specs.List.{list_any, count_by, AllPairs, Contains, slice_get, slice_index_or}
 use Rattle.std.proofs.lemmas.Bool.{eq-eqb, ne_eqb, eqb-true, eqb-false, or_parts, false≢true}
+use Rattle.std.proofs.lemmas.List.{length-map}
 use Rattle.std.proofs.lemmas.List.Folds.{list_any_at}
 use Rattle.std.proofs.lemmas.List.Kept.{AllPairs-filter, AllPairs-cons}
-use Rattle.std.proofs.lemmas.List.Sums.{sum_by-cons}
+use Rattle.std.proofs.lemmas.List.Sums.{sum_by-cons, length-filter, count_by-le-length}
 use Rattle.std.proofs.lemmas.Map.Views.{any-filter_same}
 use Rattle.std.proofs.lemmas.Option.{slice_get_within, get_or_from_slice_get}
 use Rattle.sat_lits.specs.ListLaws.{any_place}
 use Rattle.sat_lits.specs.ClauseLaws.{signed_twice, signed_comm, signed-signed}
 use Rattle.sat_lits.specs.Truth.{signed}
 use Rattle.sat_lits.specs.Meaning.{value_of, is_odd}
+use Rattle.sat_lits.specs.Formulas.{numbers_of}
 use Rattle.sat_lits.specs.Conflicts.{toggled, odd_vars, odd_of, AreOddVars, cuts_of_count, cuts}
 use Rattle.sat_lits.specs.declared.literal.Var.{Var}
-use Rattle.sat_lits.specs.declared.formula.Item.TheVariants.{Parity}
+use Rattle.sat_lits.specs.declared.formula.Item.{Item}
+use Rattle.sat_lits.specs.declared.formula.Item.TheVariants.{Clause, Parity}
 
 -- one more is odd where the number is not
 one_more : (n : ℕ) → ((1 + n) % 2 == 1) ≡ not (n % 2 == 1)
@@ -185,3 +188,21 @@ length-odd_vars (v ∷ vs) once =
 -- a parity of ten different variables has three cuts
 pub cuts_of_ten : (vars : List Var) (rhs : Bool) → length vars ≡ 10 → AllPairs (λ (v w : Var). v.0 ≢ w.0) vars → cuts (Parity vars rhs) ≡ 3
 cuts_of_ten vars rhs ten once = ap cuts_of_count (length-odd_vars vars once ∙ ten)
+
+-- to toggle a number makes a list longer by one at most
+length-toggled : (n : ℕ) (numbers : List ℕ) → length (toggled n numbers) ≤ suc (length numbers)
+length-toggled n numbers = go (has numbers n)
+  where
+    go : (there : Bool) → length (cond there (filter (λ k. not (k == n)) numbers) (n ∷ numbers)) ≤ suc (length numbers)
+    go true = omega (arith, length-filter (λ k. not (k == n)) numbers, count_by-le-length (λ k. not (k == n)) numbers)
+    go false = omega arith
+
+-- no more variables are odd ones than stand there
+few_odd_vars : (vars : List Var) → length (odd_vars vars) ≤ length vars
+few_odd_vars [] = omega arith
+few_odd_vars (v ∷ vs) = omega (arith, length-toggled v.0 (odd_vars vs), few_odd_vars vs)
+
+-- an item has at least two literals for each of its cuts
+pub few_cuts : (item : Item) → 2 * cuts item ≤ length (numbers_of item)
+few_cuts (Clause lits) = omega arith
+few_cuts (Parity vars rhs) = omega (arith, few_odd_vars vars, length-map vars (λ (v : Var). v.0))

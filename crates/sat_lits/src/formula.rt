@@ -1,7 +1,7 @@
-ghost use Rattle.std.specs.Prelude.{◌≡◌, ◌≢◌, ◌+◌, ◌<◌, ◌≤◌, ◌↔◌, ℕ, true, [], Some, None, Err, length, IsTrue, IfErr, OnOk, OnErr, map};
+ghost use Rattle.std.specs.Prelude.{◌≡◌, ◌≢◌, ◌+◌, ◌<◌, ◌≤◌, ◌↔◌, ℕ, true, Some, None, Err, length, IsTrue, IfErr, OnOk, OnErr, map};
 ghost use Rattle.sat_lits.specs.declared.formula.Item.TheVariants.{Clause, Parity};
 ghost use Rattle.sat_lits.specs.Meaning.{IsModel};
-ghost use Rattle.sat_lits.specs.Formulas.{Bounded, IsWithinLimits, with_vars, with_item, first_unknown, numbers_of, names_known, lit_count};
+ghost use Rattle.sat_lits.specs.Formulas.{Bounded, IsWithinLimits, no_problem, with_vars, with_item, first_unknown, numbers_of, names_known, lit_count};
 
 use crate::limits::Limits;
 use crate::list::{List, NoMemory};
@@ -48,7 +48,8 @@ impl From<NoMemory> for FormulaError {
     }
 }
 
-/// Variables, and clauses and parities over them, within limits.
+/// Variables, and clauses and parities over them, within limits. These are at most the standard
+/// ones, so there are fewer than 2^24 variables.
 #[derive(Debug, Drop)]
 pub struct Formula {
     alloc: Global,
@@ -73,7 +74,7 @@ impl Model for Formula {
 impl Formula {
     /// No variables and no items. It takes no memory.
     pub fn new(alloc: Global, limits: Limits) -> Formula
-        ensures { result ≡ record { problem = record { vars = 0; items = [] }; limits = limits } }
+        ensures { result ≡ record { problem = no_problem; limits = limits } }
     {
         Formula {
             alloc,

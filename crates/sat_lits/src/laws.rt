@@ -1,11 +1,12 @@
 //! Laws on the definitions of this crate. Each is the contract of a function that does nothing.
 
-ghost use Rattle.std.specs.Prelude.{◌≡◌, ◌≢◌, ℕ, Bool, List, ◌∷◌, AllPairs, length, map, sum};
+ghost use Rattle.std.specs.Prelude.{◌≡◌, ◌≢◌, ℕ, ◌<◌, ◌^◌, Bool, List, ◌∷◌, AllPairs, length, map, sum};
 ghost use Rattle.std.specs.List.{range_with_len};
 ghost use Rattle.sat_lits.specs.Truth.{signed};
 ghost use Rattle.sat_lits.specs.Meaning.{value_of, is_odd};
+ghost use Rattle.sat_lits.specs.Formulas.{Bounded, IsWithinLimits};
 ghost use Rattle.sat_lits.specs.Logs.{EachFollows, StaysLegal, FrontIsLegal, PushIsLegal};
-ghost use Rattle.sat_lits.specs.Conflicts.{AreOddVars, odd_vars, odd_of, cuts, interval_len, intervals_len, enough, IntervalsCount, LastIsLong};
+ghost use Rattle.sat_lits.specs.Conflicts.{AreOddVars, odd_vars, odd_of, cuts, own_count, interval_len, intervals_len, enough, IntervalsCount, LastIsLong};
 ghost use Rattle.sat_lits.specs.declared.formula.Item.TheVariants.{Parity};
 
 use crate::literal::Var;
@@ -63,6 +64,11 @@ pub fn the_last_interval_is_long()
 /// With two variables 109 conflicts are enough.
 pub fn two_variables_need_109_conflicts()
     ensures { enough 2 ≡ 109 }
+{}
+
+/// A solver of a formula within limits comes to have fewer than 2^25 variables.
+pub fn few_variables_for_one_solver()
+    ensures { (f : Bounded) → IsWithinLimits f → own_count f.problem < 2 ^ 25 }
 {}
 
 /// One variable more turns the parity where it is true.

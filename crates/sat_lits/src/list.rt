@@ -1,5 +1,7 @@
-ghost use Rattle.std.specs.Prelude.{◌≡◌, [], ◌∷◌, ◌++◌, take, IfOk, OnOk, OnErr};
+ghost use Rattle.std.specs.Prelude.{◌≡◌, [], ◌∷◌, ◌++◌, take, map, IfOk, OnOk, OnErr};
+ghost use Rattle.sat_lits.specs.Meaning.{negated};
 
+use crate::literal::Lit;
 use std::alloc::{AllocError, AllocFailed, Global};
 use std::marker::Model;
 
@@ -107,6 +109,17 @@ impl<T: Copy> List<T> {
         ensures { self.new ≡ [] }
     {
         self.items.clear();
+    }
+}
+
+impl List<Lit> {
+    /// Turns the sign of each literal.
+    pub fn negate(&mut self)
+        ensures { self.new ≡ map negated self.old }
+    {
+        for lit in self.items.iter_mut() {
+            *lit = lit.negated();
+        }
     }
 }
 

@@ -1,3 +1,6 @@
+ghost use Rattle.std.specs.Prelude.{◌≡◌};
+ghost use Rattle.sat_lits.specs.Meaning.{negated};
+
 /// A variable of the caller, by its number from 0.
 #[derive(Clone, Copy, Debug, PartialEq, Eq, PartialOrd, Ord)]
 pub struct Var(pub u32);
@@ -7,6 +10,18 @@ pub struct Var(pub u32);
 pub struct Lit {
     pub var: Var,
     pub negative: bool,
+}
+
+impl Lit {
+    /// The literal that is true where this one is false.
+    pub fn negated(self) -> Lit
+        ensures { result ≡ negated self }
+    {
+        Lit {
+            var: self.var,
+            negative: !self.negative,
+        }
+    }
 }
 
 /// A variable of one solver, by its own number from 0, in order of creation.

@@ -58,8 +58,17 @@ pub trait Alarm {
     /// How often it was raised. The count never falls, and stays at its last value.
     ghost raises: { Self → ℕ };
 
+    /// What a poll leaves as it was. Each value keeps to itself, and what two polls in turn leave
+    /// as it was, both together leave.
+    ghost kept: { Self → Self → Type 0 };
+
     /// Whether it asks for a stop now. True only where it was raised in this call.
     fn poll(&mut self) -> bool
         ensures later { raises self.old ≤ raises self.new }
-        ensures rose { IsTrue result → Rose (raises self.old) (raises self.new) };
+        ensures rose { IsTrue result → Rose (raises self.old) (raises self.new) }
+        ensures kept { kept self.old self.new };
+
+    ghost kept_by_none: { (a : Self) → kept a a };
+
+    ghost kept_by_both: { (a b c : Self) → kept a b → kept b c → kept a c };
 }

@@ -203,6 +203,12 @@ impl Silent {
 impl Alarm for Silent {
     ghost raises = { λ _. 0 };
 
+    ghost kept = { λ _ _. Unit {0} };
+
+    ghost kept_by_none = { λ _. tt };
+
+    ghost kept_by_both = { λ _ _ _ _ _. tt };
+
     fn poll(&mut self) -> bool {
         false
     }

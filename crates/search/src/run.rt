@@ -1,4 +1,4 @@
-ghost use Rattle.std.specs.Prelude.{◌≡◌, ◌<◌, ◌^◌, length};
+ghost use Rattle.std.specs.Prelude.{◌≡◌, ◌<◌, ◌≤◌, ◌^◌, length};
 ghost use Rattle.analyze.specs.Counting.{saturated};
 ghost use Rattle.search.specs.InUse.{in_use};
 ghost use Rattle.search.specs.Answers.{AnswersRight, EndsRight, IsBelow, LearnsRight};
@@ -33,6 +33,8 @@ impl Work {
         ensures learned { LearnsRight state.old state.new self.new.conflicts result }
         ensures few { self.new.conflicts < 3 ^ length (in_use state.old.maps) }
         ensures tallied { tally.new ≡ saturated tally.old self.new.conflicts }
+        ensures stop { S.kept stop.old stop.new }
+        ensures later { S.raises stop.old ≤ S.raises stop.new }
     {
         'moves: loop {
             match self.propagate(state) {

@@ -1,4 +1,4 @@
-ghost use Rattle.std.specs.Prelude.{◌≡◌, ◌<◌, ◌^◌, length, IsTrue};
+ghost use Rattle.std.specs.Prelude.{◌≡◌, ◌<◌, ◌≤◌, ◌^◌, length, IsTrue};
 ghost use Rattle.analyze.specs.Counting.{saturated};
 ghost use Rattle.search.specs.InUse.{in_use, lits_among};
 ghost use Rattle.search.specs.Answers.{AnswersRight, EndsRight, LearnsRight, own_length};
@@ -50,12 +50,13 @@ impl Search {
     /// wherever all clauses are true. `Spent` comes exactly at `left` conflicts, at once for 0, and
     /// `IntervalOver` at the number that `interval_len` gives for `interval`, unless `Spent` comes.
     /// `Asked` comes only where the count of `stop`, which is polled before each decision, rose in
-    /// this call. After `Memory` the state stands.
+    /// this call. Whatever comes, that count does not fall, and `stop` keeps what its polls keep.
+    /// After `Memory` the state stands.
     ///
     /// A conflict counts where a clause was learned from it, and the tally rises by these alone.
     /// Each such clause is added to the learned ones and is new: it has not all literals of one
     /// that stood before it. Nothing else of the state changes. The interval makes fewer conflicts
-    /// than 3 to the number of active variables.
+    /// than 3 to the number of active variables, and so than 3 to the number of own ones.
     pub fn run_interval<S: Alarm>(
         &mut self,
         state: &mut PrivateState,
@@ -71,7 +72,10 @@ impl Search {
         ensures ends { EndsRight (own_length interval) left self.new result }
         ensures learned { LearnsRight state.old state.new self.new result }
         ensures few { self.new < 3 ^ length (in_use state.old.maps) }
+        ensures own { self.new < 3 ^ length state.old.maps.inners }
         ensures tallied { tally.new ≡ saturated tally.old self.new }
+        ensures stop { S.kept stop.old stop.new }
+        ensures later { S.raises stop.old ≤ S.raises stop.new }
     {
         // That the count has 64 bits is known from here on.
         let _count = tally.count();

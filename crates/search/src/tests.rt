@@ -25,6 +25,12 @@ struct Loud {
 impl Alarm for Loud {
     ghost raises = { λ alarm. alarm.raises };
 
+    ghost kept = { λ _ _. Unit {0} };
+
+    ghost kept_by_none = { λ _. tt };
+
+    ghost kept_by_both = { λ _ _ _ _ _. tt };
+
     fn poll(&mut self) -> bool {
         self.raises = self.raises.saturating_add(1);
         true
@@ -65,7 +71,6 @@ fn are_below(lits: &[Lit], vars: u32) -> bool
 fn can_take(state: &PrivateState, lits: &[Lit]) -> bool
     ensures { IsTrue result → Takable (state_of state.now) lits.now }
 {
-    state.stands();
     let vars = state.maps().outer_count();
     if !state.stack().entries().is_empty() {
         return false;

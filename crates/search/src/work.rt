@@ -1,6 +1,7 @@
 ghost use Rattle.std.specs.Prelude.{◌≡◌, ◌≤◌, ◌<◌, ◌^◌, length, ℕ, OnOk, IsTrue};
 ghost use Rattle.propagate.specs.Watching.{is_right};
 ghost use Rattle.search_laws.specs.TrailNumber.{trail_number};
+ghost use Rattle.var_maps.specs.Maps.{Matched};
 ghost use Rattle.search.specs.InUse.{in_use, lits_among, clauses_among};
 ghost use Rattle.search.specs.Searching.{AtMove};
 
@@ -57,6 +58,7 @@ impl Work {
         ensures at { OnOk result (AtMove state.now self.new) }
         ensures assumptions { OnOk result (self.new.assumptions ≡ assumptions.now) }
         ensures conflicts { self.new.conflicts ≡ 0 }
+        ensures matched { OnOk result (Matched state.now.maps) }
     {
         self.conflicts = 0;
         let alloc = self.assumptions.allocator();
@@ -65,7 +67,6 @@ impl Work {
         self.trail = Trail::new(alloc);
         self.trail.reserve(variables)?;
         self.order.prepare(numbers.as_slice(), phase)?;
-        state.stands();
         self.watches.prepare(state.clauses(), variables)?;
         self.assumptions = List::from_slice(alloc, assumptions)?;
         self.positions.clear();

@@ -1,17 +1,19 @@
-use Rattle.std.proofs.Common.{◌≡◌, ℕ, ◌-◌, ◌≤◌, ◌++◌, true, List, length, take, drop, ap, sym, subst, ◌∙◌}
+use Rattle.std.proofs.Common.{◌≡◌, ℕ, ◌-◌, ◌≤◌, ◌++◌, true, List, length, take, drop, ap, sym, subst, ◌∙◌, arith}
 use Rattle.std.specs.List.{list_all}
 use Rattle.sat_lits.specs.Formulas.{names_known}
 use Rattle.sat_lits.specs.declared.formula.Item.{Item}
 use Rattle.state_laws.specs.State.{State, outer_count}
 use Rattle.one_solver.specs.Taken.{HasTaken}
-use Rattle.one_solver.proofs.Taking.{has_room, grown_basic, grown_count, rest_is, rest_passes, took_some, took_all, took_front}
+use Rattle.one_solver.proofs.Taking.{has_room, grown_basic, grown_count, rest_is, rest_passes, took_some, took_all, took_front, took_longer}
 use Rattle.one_solver.proofs.take.take_formula.Goals as goal
 use Rattle.one_solver.proofs.take.take_formula.Goals.{After-items}
 
 pub grow-requires : goal.grow-requires
 grow-requires c =
     has_room c.args.state.now c.vars.result 2147483648 c.requires.basic (subst (λ (n : ℕ). outer_count c.args.state.now.definitions ≤ n) (sym c.vars.ensures.value) c.requires.front.vars)
-    (subst (λ (n : ℕ). n ≤ 2147483648) (sym c.vars.ensures.value) c.requires.few)
+    (let few : c.args.formula.now.problem.vars ≤ c.args.formula.now.limits.vars = c.vars.ensures.within.few_vars in
+    let standard = c.vars.ensures.within.standard.vars_fit in
+    subst (λ (n : ℕ). n ≤ 2147483648) (sym c.vars.ensures.value) (omega arith))
 
 known : (c : After-items) → outer_count c.grow.new.self.definitions ≡ c.args.formula.now.problem.vars
 known c = grown_count c.args.state.now c.grow.new.self c.vars.result c.requires.basic (subst (λ (n : ℕ). outer_count c.args.state.now.definitions ≤ n) (sym c.vars.ensures.value) c.requires.front.vars) c.in_ok-grow.ensures.ok ∙ c.vars.ensures.value
@@ -49,4 +51,17 @@ pub returns-clause-front : goal.returns-clause-front
 returns-clause-front c =
     let d : After-items = (goal.at.returns-clause-front c).After-items in
     took_front c.args.formula.now.problem c.grow.new.self c.take_items.new.state c.requires.front.more (known d) (items d)
+    (subst (λ (xs : List Item). HasTaken c.grow.new.self c.take_items.new.state xs) (rest d) c.in_ok-take_items.ensures.ok)
+
+pub returns-in_err-take_items-clause-longer : goal.returns-in_err-take_items-clause-longer
+returns-in_err-take_items-clause-longer c =
+    let d : After-items = (goal.at.returns-in_err-take_items-clause-longer c).After-items in
+    let (m, h) = c.in_err-take_items.ensures.some in
+    took_longer c.args.formula.now.problem c.args.state.now c.grow.new.self c.take_items.new.state (take m c.requires.front.more) (known d) c.requires.front.vars (ap (λ (z : State). z.items) c.in_ok-grow.ensures.ok)
+    (subst (λ (xs : List Item). HasTaken c.grow.new.self c.take_items.new.state (take m xs)) (rest d) h)
+
+pub returns-clause-longer : goal.returns-clause-longer
+returns-clause-longer c =
+    let d : After-items = (goal.at.returns-clause-longer c).After-items in
+    took_longer c.args.formula.now.problem c.args.state.now c.grow.new.self c.take_items.new.state c.requires.front.more (known d) c.requires.front.vars (ap (λ (z : State). z.items) c.in_ok-grow.ensures.ok)
     (subst (λ (xs : List Item). HasTaken c.grow.new.self c.take_items.new.state xs) (rest d) c.in_ok-take_items.ensures.ok)

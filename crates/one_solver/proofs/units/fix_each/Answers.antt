@@ -15,28 +15,28 @@ use Rattle.one_solver.proofs.units.fix_each.Goals as goal
 use Rattle.one_solver.proofs.units.fix_each.Goals.{After-own_lit, In-End}
 
 pub find_short-requires : goal.find_short-requires
-find_short-requires c = subst (λ (s : Store). IfSome c.units.at (λ id. IsTrue (is_live s.held id.0))) (sym c.clauses-in-units.ensures) c.units.invariant.live
+find_short-requires c = subst (λ (s : Store). IfSome c.units.at (λ id. IsTrue (is_live s.held id.0))) (sym c.clauses-in-units.ensures.value) c.units.invariant.live
 
 pub units-init : goal.units-init
 units-init c =
     record {
       fixing = fixing_start c.args.state.now c.requires.basic;
-      live = subst (λ (s : Store). IfSome c.first-at.result (λ id. IsTrue (is_live s.held id.0))) c.clauses.ensures c.first-at.ensures.live;
-      passed = ap are_long (subst (λ (s : Store). before s.held c.first-at.result ≡ []) c.clauses.ensures c.first-at.ensures.start);
+      live = subst (λ (s : Store). IfSome c.first-at.result (λ id. IsTrue (is_live s.held id.0))) c.clauses.ensures.value c.first-at.ensures.live;
+      passed = ap are_long (subst (λ (s : Store). before s.held c.first-at.result ≡ []) c.clauses.ensures.value c.first-at.ensures.start);
     }
 
 pub refute-requires : goal.refute-requires
-refute-requires c = empty_contradicted c.units.state (ap (λ (s : Store). list_any (λ (h : Held). is_empty h.lits) s.held) (sym c.clauses-in-units.ensures) ∙ c.in-Empty.ensures)
+refute-requires c = empty_contradicted c.units.state (ap (λ (s : Store). list_any (λ (h : Held). is_empty h.lits) s.held) (sym c.clauses-in-units.ensures.value) ∙ c.in-Empty.ensures)
 
 -- the literal's clause is held
 single : (c : After-own_lit) → FindsSingle c.units.state.store c.units.at c.in-Single.id c.in-Single.lit
-single c = subst (λ (s : Store). FindsSingle s c.units.at c.in-Single.id c.in-Single.lit) c.clauses-in-units.ensures c.in-Single.ensures
+single c = subst (λ (s : Store). FindsSingle s c.units.at c.in-Single.id c.in-Single.lit) c.clauses-in-units.ensures.value c.in-Single.ensures
 
 own : (c : After-own_lit) → c.own_lit.result ≡ own_of c.units.state.maps c.in-Single.lit
-own c = c.own_lit.ensures ∙ ap (λ (m : Maps). own_of m c.in-Single.lit) c.maps.ensures
+own c = c.own_lit.ensures ∙ ap (λ (m : Maps). own_of m c.in-Single.lit) c.maps.ensures.value
 
 active : (c : After-own_lit) → is_active (state_of c.units.state) c.own_lit.result.var.0 ≡ true
-active c = ap (λ (o : OwnLit). is_active (state_of c.units.state) o.var.0) (own c) ∙ unit_active c.units.state c.in-Single.lit c.stands.ensures (unit_found c.units.state.store.held c.in-Single.id.0 c.in-Single.lit (single c).lits)
+active c = ap (λ (o : OwnLit). is_active (state_of c.units.state) o.var.0) (own c) ∙ unit_active c.units.state c.in-Single.lit c.clauses-in-units.ensures.standing (unit_found c.units.state.store.held c.in-Single.id.0 c.in-Single.lit (single c).lits)
 
 pub fix-requires-clause-active : goal.fix-requires-clause-active
 fix-requires-clause-active c = active c
@@ -51,16 +51,16 @@ pub units-preserved : goal.units-preserved
 units-preserved c =
     let k = (goal.at.units-preserved c).After-own_lit in
     record {
-      fixing = fixing_step c.args.state.now c.units.state c.fix.new.self c.own_lit.result c.stands.ensures (active k) c.in_ok-fix-in-Single.ensures.ok c.units.invariant.fixing;
-      live = subst (λ (s : Store). IfSome c.next-at.result (λ id. IsTrue (is_live s.held id.0))) c.clauses-in-Single.ensures c.next-at.ensures.live;
+      fixing = fixing_step c.args.state.now c.units.state c.fix.new.self c.own_lit.result c.clauses-in-units.ensures.standing (active k) c.in_ok-fix-in-Single.ensures.ok c.units.invariant.fixing;
+      live = subst (λ (s : Store). IfSome c.next-at.result (λ id. IsTrue (is_live s.held id.0))) c.clauses-in-Single.ensures.value c.next-at.ensures.live;
       passed =
           fixed_passed c.units.state c.fix.new.self c.own_lit.result.var.0 c.in-Single.id c.in-Single.lit c.next-at.result (single k).kept c.in_ok-fix-in-Single.ensures.ids (single k).lits (ap (λ (o : OwnLit). o.var.0) (sym (own k)))
           ((single k).passed c.units.invariant.passed)
-          (subst (λ (s : Store). before s.held c.next-at.result ≡ filter (λ h. nat_le h.id c.in-Single.id.0) s.held) c.clauses-in-Single.ensures c.next-at.ensures.step);
+          (subst (λ (s : Store). before s.held c.next-at.result ≡ filter (λ h. nat_le h.id c.in-Single.id.0) s.held) c.clauses-in-Single.ensures.value c.next-at.ensures.step);
     }
 
 left : (c : In-End) → HasNoUnits c.units.state
-left c = has_no_units c.units.state (ap (λ (s : Store). are_long s.held) (sym c.clauses-in-units.ensures) ∙ c.in-End.ensures (ap (λ (s : Store). are_long (before s.held c.units.at)) c.clauses-in-units.ensures ∙ c.units.invariant.passed))
+left c = has_no_units c.units.state (ap (λ (s : Store). are_long s.held) (sym c.clauses-in-units.ensures.value) ∙ c.in-End.ensures (ap (λ (s : Store). are_long (before s.held c.units.at)) c.clauses-in-units.ensures.value ∙ c.units.invariant.passed))
 
 pub returns-in-End-clause-fixed : goal.returns-in-End-clause-fixed
 returns-in-End-clause-fixed c = λ o. fixing_end c.args.state.now c.units.state c.units.invariant.fixing (left c)

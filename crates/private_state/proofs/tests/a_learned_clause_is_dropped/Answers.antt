@@ -17,6 +17,6 @@ add_learned-requires g c =
 pub drop_learned-requires : goal.drop_learned-requires
 drop_learned-requires g c =
     let g = c.in_ok-id.ensures.stored in
-    let rises = ap (λ (s : Store). rising s.held) (sym c.clauses-store.ensures) ∙ c.is_live.ensures.kept.rises in
+    let rises = ap (λ (s : Store). rising s.held) (sym c.clauses-store.ensures.value) ∙ c.is_live.ensures.kept.rises in
     ap (λ (hs : List Held). option_map (λ h. h.learned) (clause_at hs c.in_ok-id.id.0)) g.held
     ∙ ap (option_map (λ (h : Held). h.learned)) (last_found _ (held_as c.in_ok-id.id.0 true g.lits) (ap rising (sym g.held) ∙ rises))

@@ -9,13 +9,13 @@ use Rattle.search.proofs.conflict.add_clause.Goals as goal
 use Rattle.search.proofs.conflict.add_clause.Goals.{After-as_slice}
 
 own_is : (c : After-as_slice) → c.as_slice.result.now ≡ own_clause c.args.state.now.maps c.args.lits.now
-own_is c = c.as_slice.ensures ∙ (c.in_ok-own.ensures.own ∙ ap (λ (m : Maps). own_clause m c.args.lits.now) c.maps.ensures)
+own_is c = c.as_slice.ensures ∙ (c.in_ok-own.ensures.own ∙ ap (λ (m : Maps). own_clause m c.args.lits.now) c.maps.ensures.value)
 
 matched : (c : After-as_slice) → Matched c.args.state.now.maps
-matched c = subst Matched c.maps.ensures c.own_lits.ensures.matched
+matched c = subst Matched c.maps.ensures.value c.own_lits.ensures.matched
 
 pub own_lits-requires : goal.own_lits-requires
-own_lits-requires c = subst (λ (m : Maps). lits_among (in_use m) c.args.lits.now ≡ true) (sym c.maps.ensures) c.requires.active
+own_lits-requires c = subst (λ (m : Maps). lits_among (in_use m) c.args.lits.now ≡ true) (sym c.maps.ensures.value) c.requires.active
 
 pub add_learned-requires : goal.add_learned-requires
 add_learned-requires c =

@@ -15,4 +15,4 @@ loop-lit-preserved c =
     ∙ (ap (lits_among (in_use c.args.state.now.maps)) (take-suc c.args.lits.now c.loop-lit.lit-index (positive 0) c.loop-lit-test.true)
     ∙ all_push (λ (l : InLit). is_among (in_use c.args.state.now.maps) l.var.0) (take c.loop-lit.lit-index c.args.lits.now) (get_or c.args.lits.now c.loop-lit.lit-index (positive 0)) c.loop-lit.invariant
     (owned_among c.args.state.now.maps.owners (get_or c.args.lits.now c.loop-lit.lit-index (positive 0)).var.0
-    (subst (λ (m : Maps). is_some (owner_at m (get_or c.args.lits.now c.loop-lit.lit-index (positive 0)).var.0) ≡ true) c.maps.ensures (ap is_some (sym c.at_inner.ensures.value) ∙ (c.is_none.ensures ∙ ap not c.if-is_none.false)))))
+    (subst (λ (m : Maps). is_some (owner_at m (get_or c.args.lits.now c.loop-lit.lit-index (positive 0)).var.0) ≡ true) c.maps.ensures.value (ap is_some (sym c.at_inner.ensures.value) ∙ (c.is_none.ensures ∙ ap not c.if-is_none.false)))))

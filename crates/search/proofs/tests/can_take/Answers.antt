@@ -32,6 +32,6 @@ no_more (x ∷ xs) e = absurd (omega arith)
 
 pub returns : goal.returns
 returns c = λ f.
-    takable c.args.state.now c.args.lits.now c.outer_count-vars.result c.stands.ensures
+    takable c.args.state.now c.args.lits.now c.outer_count-vars.result c.maps.ensures.standing
     (sym c.stack.ensures ∙ (sym c.entries.ensures ∙ no_more c.entries.result.now (eqb-true _ _ (sym c.is_empty.ensures ∙ c.if-not-is_empty.false))))
-    (c.outer_count-vars.ensures.value ∙ ap (λ (m : Maps). length m.outers) c.maps.ensures) (sym c.are_below.ensures ∙ f)
+    (c.outer_count-vars.ensures.value ∙ ap (λ (m : Maps). length m.outers) c.maps.ensures.value) (sym c.are_below.ensures ∙ f)

@@ -6,4 +6,4 @@ use Rattle.one_solver.proofs.solver.OneSolver.okay.Goals as goal
 
 pub returns-clause-right : goal.returns-clause-right
 returns-clause-right c = λ e.
-    subst (λ (s : Parts). HasNoModel (problem_in s)) c.self.view_is (no_model c.self.inside.state c.stands.ensures c.self.invariant (sym c.okay.ensures ∙ e))
+    subst (λ (s : Parts). HasNoModel (problem_in s)) c.self.view_is (no_model c.self.inside.state c.okay.ensures.standing c.self.invariant (sym c.okay.ensures.value ∙ e))

@@ -14,17 +14,17 @@ use Rattle.search.proofs.work.Work.analyze.Goals as goal
 use Rattle.search.proofs.work.Work.analyze.Goals.{After-as_slice}
 
 pub lits-requires : goal.lits-requires
-lits-requires c = subst (λ (s : Store). is_live s.held c.args.conflict.0 ≡ true) (sym c.clauses-store.ensures) (named_live c.args.state.now.store.held c.args.conflict (false_clause c.args.self.now.trail.steps) c.requires.conflict)
+lits-requires c = subst (λ (s : Store). is_live s.held c.args.conflict.0 ≡ true) (sym c.clauses-store.ensures.value) (named_live c.args.state.now.store.held c.args.conflict (false_clause c.args.self.now.trail.steps) c.requires.conflict)
 
 pub bump_all-requires : goal.bump_all-requires
 bump_all-requires c =
     lits_in_order c.args.self.now.order.known (in_use c.args.state.now.maps) c.lits.result.now c.requires.at.tables.order
     (live_among (in_use c.args.state.now.maps) c.args.state.now.store.held c.args.conflict.0 c.lits.result.now c.requires.at.tables.clauses
-    (subst (λ (s : Store). option_map (λ (h : Held). h.lits) (clause_at s.held c.args.conflict.0) ≡ Some c.lits.result.now) c.clauses-store.ensures c.lits.ensures.value))
+    (subst (λ (s : Store). option_map (λ (h : Held). h.lits) (clause_at s.held c.args.conflict.0) ≡ Some c.lits.result.now) c.clauses-store.ensures.value c.lits.ensures.value))
 
 pub learn-requires-clause-present : goal.learn-requires-clause-present
 learn-requires-clause-present c =
-    subst (λ (s : Store). names s.held c.args.conflict (has_present c.args.self.now.trail.steps) ≡ true) (sym c.clauses-store.ensures)
+    subst (λ (s : Store). names s.held c.args.conflict (has_present c.args.self.now.trail.steps) ≡ true) (sym c.clauses-store.ensures.value)
     (conflict_present c.args.state.now.store.held c.args.self.now.trail.steps c.args.conflict c.requires.at.searching.sound c.requires.level c.requires.at.searching.quiet c.requires.conflict)
 
 pub bump_all-requires-2 : goal.bump_all-requires-2

@@ -48,7 +48,7 @@ returns-in_err-id-clause-err c =
 
 pub attach-requires-clause-live : goal.attach-requires-clause-live
 attach-requires-clause-live c =
-    subst (λ (s : Store). is_live s.held c.in_ok-id.id.0 ≡ true) (sym c.clauses.ensures)
+    subst (λ (s : Store). is_live s.held c.in_ok-id.id.0 ≡ true) (sym c.clauses.ensures.value)
     (ap is_some (added_live c.args.state.now c.add_clause.new.state c.in_ok-learned.learned.lits c.in_ok-id.id c.in_ok-learned.ensures.kept (is_added c)))
 
 pub attach-requires-clause-fresh : goal.attach-requires-clause-fresh
@@ -58,7 +58,7 @@ attach-requires-clause-fresh c =
 
 pub attach-requires-clause-variables : goal.attach-requires-clause-variables
 attach-requires-clause-variables c =
-    subst (λ (s : Store). names s.held c.in_ok-id.id (lits_below c.analyze.new.self.watches.variables) ≡ true) (sym c.clauses.ensures)
+    subst (λ (s : Store). names s.held c.in_ok-id.id (lits_below c.analyze.new.self.watches.variables) ≡ true) (sym c.clauses.ensures.value)
     (ap (passes (lits_below c.analyze.new.self.watches.variables)) (added_live c.args.state.now c.add_clause.new.state c.in_ok-learned.learned.lits c.in_ok-id.id c.in_ok-learned.ensures.kept (is_added c))
     ∙ (ap (λ (w : Work). lits_below w.watches.variables c.in_ok-learned.learned.lits) c.analyze.ensures.same
     ∙ (ap (λ (n : ℕ). lits_below n c.in_ok-learned.learned.lits) c.requires.at.tables.variables
@@ -96,7 +96,7 @@ pub returns-clause-at : goal.returns-clause-at
 returns-clause-at c =
     landed c.args.state.now c.add_clause.new.state c.args.self.now c.analyze.new.self c.go_back.new.self c.attach.new.self c.assign.new.self c.in_ok-learned.learned.lits c.in_ok-learned.learned.back c.in_ok-id.id c.requires.at c.in_ok-learned.ensures.kept c.in_ok-learned.ensures.learned
     (is_added (goal.at.returns-clause-at c).After-clauses) c.in_ok-learned.ensures.order c.in_ok-learned.ensures.passed (one_more (goal.at.returns-clause-at c).After-clauses) (some_clause (goal.at.returns-clause-at c).After-clauses) c.analyze.ensures.same
-    (c.in_ok-attach.ensures.ok ∙ ap (λ (s : Store). record c.analyze.new.self.watches { taken = c.analyze.new.self.watches.taken ++ map taken_as (option_to_list (clause_at s.held c.in_ok-id.id.0)) }) c.clauses.ensures)
+    (c.in_ok-attach.ensures.ok ∙ ap (λ (s : Store). record c.analyze.new.self.watches { taken = c.analyze.new.self.watches.taken ++ map taken_as (option_to_list (clause_at s.held c.in_ok-id.id.0)) }) c.clauses.ensures.value)
     c.go_back.ensures (assigned (goal.at.returns-clause-at c).After-assign)
 
 pub returns-clause-learned : goal.returns-clause-learned

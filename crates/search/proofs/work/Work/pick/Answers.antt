@@ -36,4 +36,4 @@ returns-in-Some-clause-rises c =
 pub returns-in-Ok-clause-right : goal.returns-in-Ok-clause-right
 returns-in-Ok-clause-right c =
     inner_model c.args.state.now c.args.self.now c.in-Ok.values c.inner_len.result c.requires.at c.requires.quiet (c.in_default.ensures.none.0 refl) c.requires.next
-    (c.inner_len.ensures.value ∙ ap (λ (m : Maps). length m.owners) c.maps.ensures) c.in-Ok.ensures.long c.in-Ok.ensures.each
+    (c.inner_len.ensures.value ∙ ap (λ (m : Maps). length m.owners) c.maps.ensures.value) c.in-Ok.ensures.long c.in-Ok.ensures.each
