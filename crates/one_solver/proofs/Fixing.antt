@@ -34,7 +34,7 @@ use Rattle.private_state.specs.Removed.{fixed_value}
 use Rattle.private_state.proofs.Moving.{active_unnamed}
 use Rattle.one_solver.specs.Basic.{is_clause, IsBasic}
 use Rattle.one_solver.specs.Fixing.{IsHeldOrFixed, IsFixing}
-use Rattle.one_solver.specs.Units.{is_short, is_empty, is_unit, HasNoUnits, IsFixed, FixesUnits}
+use Rattle.one_solver.specs.Units.{is_short, is_empty, is_unit, HasNoUnits, IsFixed, FixesUnits, TookSame}
 
 -- a clause of one literal is that literal
 pub unit_is : (l : InLit) (c : List InLit) → is_unit (same_in l) c ≡ true → c ≡ l ∷ []

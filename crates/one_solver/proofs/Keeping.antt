@@ -1,5 +1,5 @@
 -- The oldest long learned clauses are dropped, one after another.
-use Rattle.std.proofs.Common.{◌≡◌, ℕ, suc, ◌+◌, ◌<◌, ◌==◌, Bool, true, false, cond, not, ltb, List, [], ◌∷◌, Some, refl, sym, ap, subst, ◌∙◌, arith, length, filter, drop, map, take, min, get_or, ◌++◌, ◌-◌, Option, option_map, option_to_list, unwrap_or, ltb-true, eqb-true, ne_eqb, eq-eqb, add-one}
+use Rattle.std.proofs.Common.{◌≡◌, ℕ, zero, suc, ◌&&◌, ◌+◌, ◌<◌, ◌==◌, Bool, true, false, cond, not, ltb, List, [], ◌∷◌, Some, refl, sym, ap, subst, ◌∙◌, arith, length, filter, drop, map, take, min, get_or, ◌++◌, ◌-◌, Option, option_map, option_to_list, unwrap_or, ltb-true, eqb-true, ne_eqb, eq-eqb, add-one}
 use Rattle.std.proofs.Math.Seq.{drop-cons}
 use Rattle.std.proofs.lemmas.Bool.{and_parts, and_from}
 use Rattle.std.proofs.lemmas.List.{get_or-map, get_or-take, get_or_default, map-append, length-map, length-take, append-nil}
@@ -8,7 +8,8 @@ use Rattle.std.specs.List.{list_all}
 use Rattle.sat_lits.specs.InLits.{is_distinct}
 use Rattle.sat_lits.specs.ListLaws.{all_mono, all_filter, filter_all}
 use Rattle.sat_lits.specs.declared.literal.ClauseId.{ClauseId}
-use Rattle.clause_store.specs.Store.{Store, Held, IsKept, clause_at, is_live, before, without, rising}
+use Rattle.sat_lits.specs.declared.literal.InLit.{InLit}
+use Rattle.clause_store.specs.Store.{Store, Held, IsKept, clause_at, is_live, before, without, contents, rising}
 use Rattle.state_laws.specs.Kernel.{Kernel, IsLearnedId}
 use Rattle.state_laws.specs.KernelLearnLaws.{dropped}
 use Rattle.one_solver.specs.Learned.{is_long, is_long_at, HasForgotten, KeepsNewest}
@@ -200,10 +201,44 @@ next_dropped first now next ids n i e a l d =
     let h : Held = get_or (filter is_long first.store.held) i none in
     forgetting_more first now next i h a p.within (get_or_default (filter is_long first.store.held) i none h p.within) (d ∙ ap (λ (k : ℕ). dropped k now) p.id)
 
+contents-drop : (n : ℕ) (held : List Held) → contents (drop n held) ≡ drop n (contents held)
+contents-drop zero held = refl
+contents-drop (suc n) [] = refl
+contents-drop (suc n) (h ∷ held) = contents-drop n held
+
 -- at the end the newest are left
 pub newest_left : (first now : Kernel) (ids : List ClauseId) (keep n i : ℕ) → map (λ k. k.0) ids ≡ map (λ h. h.id) (filter is_long first.store.held) → AtForgetting first now i → n ≡ length ids - keep
     → i ≡ length (take n ids) → KeepsNewest keep first.store.held now.store.held
 newest_left first now ids keep n i e a m l =
     let same : length ids ≡ length (filter is_long first.store.held) = sym (length-map ids (λ (k : ClauseId). k.0)) ∙ (ap length e ∙ length-map (filter is_long first.store.held) (λ (h : Held). h.id)) in
     let all : i ≡ length (filter is_long first.store.held) - keep = (let t : i ≡ min n (length ids) = l ∙ length-take n ids in omega arith) in
-    record { long = a.long ∙ ap (λ (k : ℕ). drop k (filter is_long first.store.held)) all; others = a.others }
+    record {
+      long = ap contents (a.long ∙ ap (λ (k : ℕ). drop k (filter is_long first.store.held)) all) ∙ contents-drop (length (filter is_long first.store.held) - keep) (filter is_long first.store.held);
+      others = ap contents a.others;
+    }
+
+-- what clauses are, whatever their ids, of those that pass a test of it
+contents-filter : (test : Bool × List InLit → Bool) (held : List Held) → contents (filter (λ h. test (h.learned, h.lits)) held) ≡ filter test (contents held)
+contents-filter test [] = refl
+contents-filter test (h ∷ held) = go (test (h.learned, h.lits)) (contents-filter test held)
+  where
+    go : (b : Bool) → contents (filter (λ k. test (k.learned, k.lits)) held) ≡ filter test (contents held)
+        → contents (cond b (h ∷ filter (λ k. test (k.learned, k.lits)) held) (filter (λ k. test (k.learned, k.lits)) held)) ≡ cond b ((h.learned, h.lits) ∷ filter test (contents held)) (filter test (contents held))
+    go true e = ap (λ (z : List (Bool × List InLit)). (h.learned, h.lits) ∷ z) e
+    go false e = e
+
+-- whether it is a learned clause of more than two literals
+is_long_in : Bool × List InLit → Bool
+is_long_in c = c.0 && ltb 2 (length c.1)
+
+long_in : (held news : List Held) → contents news ≡ contents held → contents (filter is_long news) ≡ contents (filter is_long held)
+unfolding is_long_in
+long_in held news e = contents-filter is_long_in news ∙ (ap (filter is_long_in) e ∙ sym (contents-filter is_long_in held))
+
+others_in : (held news : List Held) → contents news ≡ contents held → contents (filter (λ h. not (is_long h)) news) ≡ contents (filter (λ h. not (is_long h)) held)
+unfolding is_long_in
+others_in held news e = contents-filter (λ c. not (is_long_in c)) news ∙ (ap (filter (λ c. not (is_long_in c))) e ∙ sym (contents-filter (λ c. not (is_long_in c)) held))
+
+-- so they are where clauses get other ids
+pub newest_renumbered : (keep : ℕ) (first now news : List Held) → KeepsNewest keep first now → contents news ≡ contents now → KeepsNewest keep first news
+newest_renumbered keep first now news k e = record { long = long_in now news e ∙ k.long; others = others_in now news e ∙ k.others }

@@ -1,6 +1,6 @@
 -- Learned clauses that are dropped again.
 use Rattle.std.specs.Prelude.{◌≡◌, ◌≤◌, ◌-◌, ℕ, Bool, false, not, ◌&&◌, List, length, filter, drop, nat_lt, option_map, unwrap_or}
-use Rattle.clause_store.specs.Store.{Held, clause_at}
+use Rattle.clause_store.specs.Store.{Held, clause_at, contents}
 use Rattle.state_laws.specs.Kernel.{Kernel, state_of}
 
 -- whether a clause is a learned one of more than two literals
@@ -20,7 +20,7 @@ pub record HasForgotten (old new : Kernel) : Type 0 where
 abbrev pub HasFewLong : ℕ → Kernel → Type 0
 HasFewLong most k = length (filter is_long k.store.held) ≤ most
 
--- of the learned clauses of more than two literals the last so many are left, and all other clauses are
+-- of the learned clauses of more than two literals the last so many are left, and all other clauses are, in order and whatever their ids
 pub record KeepsNewest (keep : ℕ) (old new : List Held) : Type 0 where
-  pub long : filter is_long new ≡ drop (length (filter is_long old) - keep) (filter is_long old)
-  pub others : filter (λ clause. not (is_long clause)) new ≡ filter (λ clause. not (is_long clause)) old
+  pub long : contents (filter is_long new) ≡ drop (length (filter is_long old) - keep) (contents (filter is_long old))
+  pub others : contents (filter (λ clause. not (is_long clause)) new) ≡ contents (filter (λ clause. not (is_long clause)) old)

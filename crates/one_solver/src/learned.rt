@@ -7,8 +7,9 @@ use private_state::PrivateState;
 use sat_lits::{ClauseId, NoMemory};
 use std::alloc::Global;
 
-/// Drops the learned clauses of more than two literals, but for so many of the newest. The only
-/// error is want of memory, and nothing changes then.
+/// Drops the learned clauses of more than two literals, but for so many of the newest, and gives
+/// the others new ids where one was dropped. The only error is want of memory, and nothing changes
+/// then.
 pub fn forget_old(alloc: Global, state: &mut PrivateState, keep: usize) -> Result<(), NoMemory>
     ensures forgotten { HasForgotten state.old state.new }
     ensures newest { OnOk result (KeepsNewest keep state.old.store.held state.new.store.held) }
@@ -18,6 +19,9 @@ pub fn forget_old(alloc: Global, state: &mut PrivateState, keep: usize) -> Resul
     let old = ids.len().saturating_sub(keep);
     for id in &ids[..old] {
         state.drop_learned(*id);
+    }
+    if old > 0 {
+        state.compact();
     }
     Ok(())
 }

@@ -244,8 +244,7 @@ impl OneSolver {
         }
     }
 
-    /// Fixes the literals of the clauses of one literal, keeps so many long learned clauses, and gives
-    /// the clauses new ids, so that the places of dropped ones are free again.
+    /// Fixes the literals of the clauses of one literal, and keeps so many long learned clauses.
     fn tidy(&mut self, keep: usize) -> Result<(), NoMemory>
         ensures units { OnOk result (IsTrue self.new.kernel.okay → HasNoUnits self.new.kernel) }
         ensures few { OnOk result (HasFewLong keep self.new.kernel) }
@@ -253,9 +252,7 @@ impl OneSolver {
         ensures problem { problem_in self.new ≡ problem_in self.old }
     {
         fix_units(&mut self.state)?;
-        forget_old(self.alloc, &mut self.state, keep)?;
-        self.state.compact();
-        Ok(())
+        forget_old(self.alloc, &mut self.state, keep)
     }
 }
 

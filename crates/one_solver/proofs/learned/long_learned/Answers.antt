@@ -1,8 +1,7 @@
 use Rattle.std.proofs.Common.{◌≡◌, true, map, filter, Option, IfSome, IsTrue, cond, List, ◌∷◌, [], ◌++◌, Bool, Vec, Global, sym, ap, subst, ◌∙◌}
 use Rattle.sat_lits.specs.declared.literal.ClauseId.{ClauseId}
 use Rattle.clause_store.specs.Store.{Held, is_live, before}
-use Rattle.clause_store.specs.Laws.{before-none}
-use Rattle.clause_store.specs.Laws.{shorter}
+use Rattle.clause_store.specs.Laws.{before-none, shorter}
 use Rattle.one_solver.specs.Learned.{is_long}
 use Rattle.one_solver.proofs.Keeping.{walk_long}
 use Rattle.one_solver.proofs.learned.long_learned.Goals as goal
