@@ -6,8 +6,8 @@ ghost use Rattle.dimacs_text.specs.Texts.{text_of_refusal};
 ghost use Rattle.sat_tool.specs.Writing.{port, WritesText};
 ghost use Rattle.sat_tool.specs.Reports.{text_of_report};
 
-use crate::report::Report;
 use crate::failures::Halt;
+use crate::report::Report;
 use dimacs_text::{Refusal, print_limit, print_refusal, print_verdict};
 use sat_lits::{List, NoMemory};
 use sat_ports::{Failed, Sink};
