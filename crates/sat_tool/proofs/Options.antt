@@ -2,7 +2,7 @@
 use Rattle.std.proofs.Common.{◌≡◌, ◌↔◌, ℕ, suc, zero, ◌+◌, ◌<◌, ◌≤◌, ◌^◌, Bool, true, false, ◌&&◌, List, [], ◌∷◌, length, get_or, map, drop, codes, Result, Ok, Err, Some, None, nat_lt, nat_le, if◌then◌else◌, refl, sym, ap, ◌∙◌, arith, nat_eq, Bor, drop-cons}
 use Rattle.std.specs.declared.option.Option.{Option}
 use Rattle.std.specs.Char.{is_ascii_digit}
-use Rattle.std.specs.Option.{option_and_then}
+use Rattle.std.specs.Option.{option_and_then, ok_or}
 use Rattle.std.specs.Result.{result_ok}
 use Rattle.std.specs.Str.{bytes_eq, all_ascii_digits}
 use Rattle.std.specs.Str.Parse.{digits_value, ParsesUnsigned}
@@ -11,6 +11,15 @@ use Rattle.std.proofs.lemmas.Str.Parse.{IsNumeralModel, numerals_by_value, tells
 use Rattle.std.proofs.lemmas.Slice.Eq.{bytes_eq-Decides}
 use Rattle.sat_tool.specs.Words.{is_number, number_of, number_behind, with_limit, options_after}
 use Rattle.sat_tool.specs.declared.words.Options.{Options}
+
+-- where a call answers Ok of what may be there, it is there, and where it answers an error it is not
+pub there_at_ok : {T : Type 0} (o : Option T) (e : ℕ) (r : Result T ℕ) (x : T) → r ≡ ok_or o e → r ≡ Ok x → o ≡ Some x
+there_at_ok None e r x value ok = absurd cc
+there_at_ok (Some y) e r x value ok = cc
+
+pub none_at_err : {T : Type 0} (o : Option T) (e : ℕ) (r : Result T ℕ) (y : ℕ) → r ≡ ok_or o e → r ≡ Err y → o ≡ None
+none_at_err None e r y value err = refl
+none_at_err (Some x) e r y value err = absurd cc
 
 all_where_each : (ds : List ℕ) → ((k : ℕ) → k < length ds → is_ascii_digit (get_or ds k 0) ≡ true) → all_ascii_digits ds ≡ true
 all_where_each [] h = refl

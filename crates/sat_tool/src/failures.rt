@@ -1,6 +1,7 @@
 ghost use Rattle.std.specs.Prelude.{◌≡◌};
 ghost use Rattle.sat_tool.specs.Runs.{status_without};
 
+use crate::status::{OUT_OF_MEMORY, READ_FAILED, REFUSED, WRITE_FAILED};
 use dimacs_text::{ReadError, Refusal};
 use sat_lits::NoMemory;
 use sat_ports::Failed;
@@ -91,10 +92,10 @@ impl NoReport {
         ensures { result ≡ status_without self }
     {
         match self {
-            NoReport::Refused => 2,
-            NoReport::Read => 3,
-            NoReport::Write => 4,
-            NoReport::Memory => 5,
+            NoReport::Refused => REFUSED,
+            NoReport::Read => READ_FAILED,
+            NoReport::Write => WRITE_FAILED,
+            NoReport::Memory => OUT_OF_MEMORY,
         }
     }
 }

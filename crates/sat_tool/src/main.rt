@@ -3,37 +3,41 @@
 
 mod answer;
 mod carry;
+mod complaint;
 mod failures;
 mod read;
 mod report;
 mod run;
+mod status;
 #[cfg(test)]
 mod tests;
 mod words;
 mod write;
 
+use complaint::Complaint;
 use run::run;
 use sat_api::SatSolver;
 use sat_ports::{Silent, StdSink, StdSource};
+use status::{NO_WORDS, OUT_OF_MEMORY};
 use std::process::ExitCode;
 use std::rt::Env;
 use std::thread::Threads;
 use std::{env, io};
 
-/// The status for faulty words.
-const FAULTY_WORDS: u8 = 1;
-
-/// The status for want of memory.
-const OUT_OF_MEMORY: u8 = 5;
-
-/// The status where the words cannot be had.
-const NO_WORDS: u8 = 6;
-
 fn main(rt: HostRuntime) -> ExitCode {
-    match program_words(&rt) {
-        Ok(words) => ExitCode::from(start(&rt, &words)),
-        Err(status) => ExitCode::from(status),
+    let status = match program_words(&rt) {
+        Ok(words) => start(&rt, &words),
+        Err(status) => told(&rt, status, &[]),
+    };
+    ExitCode::from(status)
+}
+
+/// Says on standard error what this status means, if something failed, and hands it on.
+fn told<R: Eprint>(rt: &R, status: u8, words: &[&str]) -> u8 {
+    if let Some(complaint) = Complaint::of(status, words) {
+        let _ = eprintln!(rt; "{complaint}");
     }
+    status
 }
 
 /// The words after the program's name, or the status where they cannot be had.
@@ -49,7 +53,7 @@ fn program_words<R: Env + AllocGlobal>(rt: &R) -> Result<Vec<String>, u8> {
 fn start<R: Input + Print + Eprint + AllocGlobal + Threads + Sync>(rt: &R, words: &[String]) -> u8 {
     let words: Vec<&str> = match words.iter().map(|word| word.as_str()).collect(rt.alloc()) {
         Ok(words) => words,
-        Err(_) => return OUT_OF_MEMORY,
+        Err(_) => return told(rt, OUT_OF_MEMORY, &[]),
     };
     let mut source = StdSource::new(rt.reader());
     let mut sink = StdSink::new(io::writer(rt));
@@ -64,8 +68,5 @@ fn start<R: Input + Print + Eprint + AllocGlobal + Threads + Sync>(rt: &R, words
         &mut alarm,
         &mut solver,
     );
-    if status == FAULTY_WORDS {
-        let _ = eprintln!(rt; "usage: torimbava [--maxconfl N] < FILE");
-    }
-    status
+    told(rt, status, &words)
 }

@@ -3,6 +3,7 @@ ghost use Rattle.sat_api.specs.State.{SolverState};
 ghost use Rattle.sat_api.specs.Answers.{Answers};
 ghost use Rattle.sat_tool.specs.Reports.{IsReportOn, status_of};
 
+use crate::status::{LIMIT_SPENT, SATISFIABLE, UNSATISFIABLE};
 use sat_api::{Answer, Cause, SatSolver, negated};
 use sat_lits::{List, NoMemory, Verdict};
 use std::alloc::Global;
@@ -22,9 +23,9 @@ impl Report {
         ensures { result ≡ status_of self.now }
     {
         match self {
-            Report::Verdict(Verdict::Sat(_)) => 10,
-            Report::Verdict(Verdict::Unsat(_)) => 20,
-            Report::Limit(_) => 15,
+            Report::Verdict(Verdict::Sat(_)) => SATISFIABLE,
+            Report::Verdict(Verdict::Unsat(_)) => UNSATISFIABLE,
+            Report::Limit(_) => LIMIT_SPENT,
         }
     }
 }

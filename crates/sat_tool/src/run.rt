@@ -11,6 +11,7 @@ use crate::answer::{answer, refuse};
 use crate::failures::{NoReport, Unread};
 use crate::read::read_formula;
 use crate::report::Report;
+use crate::status::FAULTY_WORDS;
 use crate::words::read_words;
 use sat_api::SatSolver;
 use sat_ports::{Alarm, Sink, Source};
@@ -80,8 +81,8 @@ pub fn run<R: Threads + Sync, S: Source, K: Sink, A: Alarm + Send>(
         (port (K.written sink.old) (K.faults sink.old)) (port (K.written sink.new) (K.faults sink.new))
         (A.raises alarm.old) (A.raises alarm.new) solver.old solver.new }
 {
-    let Some(options) = read_words(words) else {
-        return 1;
+    let Ok(options) = read_words(words) else {
+        return FAULTY_WORDS;
     };
     solver.set_max_confl(options.max_conflicts);
     match serve(rt, alloc, source, sink, alarm, solver) {

@@ -1,4 +1,4 @@
-ghost use Rattle.std.specs.Prelude.{◌≡◌, map, codes};
+ghost use Rattle.std.specs.Prelude.{◌≡◌, ◌<◌, Some, None, length, map, codes, IfOk, IfErr, OnErr};
 ghost use Rattle.std.specs.Option.{option_and_then};
 ghost use Rattle.std.specs.Str.{all_ascii_digits};
 ghost use Rattle.sat_tool.specs.Words.{number_of, number_behind, with_limit, options_of};
@@ -59,25 +59,32 @@ fn number_behind(word: &str) -> Option<u64>
     }
 }
 
-/// What the words choose. None comes exactly where they are not taken.
+/// What the words choose. An error comes exactly where they are not taken. It is the place, from 0,
+/// of the first word that is not; where the number of the last word is missing, that word's place.
 ///
 /// Taken are no word, and a conflict limit, as `--maxconfl 109` or `--maxconfl=109`, once.
-pub fn read_words(words: &[&str]) -> Option<Options>
-    ensures { result ≡ options_of (map (λ word. word.now) words.now) }
+pub fn read_words(words: &[&str]) -> Result<Options, usize>
+    ensures ok { IfOk result (λ options. options_of (map (λ word. word.now) words.now) ≡ Some options) }
+    ensures err { OnErr result (options_of (map (λ word. word.now) words.now) ≡ None) }
+    ensures place { IfErr result (λ at. at < length words.now) }
 {
     let mut options = Options {
         max_conflicts: None,
     };
     let mut is_named = false;
-    for word in words {
+    for (at, word) in words.iter().enumerate() {
         if is_named {
-            options = options.with_limit(number_of(word))?;
+            options = options.with_limit(number_of(word)).ok_or(at)?;
             is_named = false;
         } else if *word == MAX_CONFLICTS {
             is_named = true;
         } else {
-            options = options.with_limit(number_behind(word))?;
+            options = options.with_limit(number_behind(word)).ok_or(at)?;
         }
     }
-    if is_named { None } else { Some(options) }
+    if is_named {
+        Err(words.len() - 1)
+    } else {
+        Ok(options)
+    }
 }
