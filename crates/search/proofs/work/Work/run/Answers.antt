@@ -58,9 +58,11 @@ moves-smaller-in_default-reached g c =
 
 pub moves-preserved-in_default-reached : goal.moves-preserved-in_default-reached
 moves-preserved-in_default-reached g c = (
-    turn_learned c.args.state.now c.moves.state c.learn_from.new.state c.args.self.now c.moves.self c.learn_from.new.self c.args.ends.own c.args.ends.left c.args.tally.now c.moves.tally c.learn_from.new.tally (g.S.Alarm.raises c.args.stop.now) (g.S.Alarm.raises c.moves.stop)
-    c.moves.invariant.0 c.in_default.ensures.at c.in_default.ensures.learned (c.in_default.ensures.assumptions ∙ ap (λ (w : Work). w.assumptions) c.propagate.ensures.same) (one_more g (goal.at.moves-preserved-in_default-reached g c).In_default)
-    c.in_default.ensures.tallied c.in_default-reached.ensures.own c.in_default-reached.ensures.left, c.moves.invariant.1)
+  turn_learned c.args.state.now c.moves.state c.learn_from.new.state c.args.self.now c.moves.self c.learn_from.new.self c.args.ends.own c.args.ends.left c.args.tally.now c.moves.tally c.learn_from.new.tally (g.S.Alarm.raises c.args.stop.now) (g.S.Alarm.raises c.moves.stop)
+      c.moves.invariant.0 c.in_default.ensures.at c.in_default.ensures.learned (c.in_default.ensures.assumptions ∙ ap (λ (w : Work). w.assumptions) c.propagate.ensures.same) (one_more g (goal.at.moves-preserved-in_default-reached g c).In_default)
+      c.in_default.ensures.tallied c.in_default-reached.ensures.own c.in_default-reached.ensures.left,
+  c.moves.invariant.1,
+)
 
 pub returns-then-poll-clause-few : goal.returns-then-poll-clause-few
 returns-then-poll-clause-few g c = turn_few c.args.state.now c.moves.state c.propagate.new.self c.moves.self.conflicts c.propagate.ensures.at c.moves.invariant.0.learned
