@@ -18,7 +18,8 @@ pub record IsUnderWay (s : Parts) : Type 0 where
   pub few : s.interval ≤ 2 ^ 20
   pub short : (j : ℕ) → j < s.interval → interval_len j < 3 ^ own_count (problem_in s)
 
--- after an interval the next one follows, a solver that is okay has no clause of one literal, and at most so many long learned clauses are left
+-- after an interval the next one follows, no hard clause of a solver that is okay has one literal, and so many long
+-- learned clauses are left at most
 pub record IsTidy (interval : ℕ) (s : Parts) : Type 0 where
   pub next : s.interval ≡ interval + 1
   pub units : s.kernel.okay ≡ true → HasNoUnits s.kernel

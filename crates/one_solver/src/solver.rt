@@ -116,8 +116,8 @@ impl OneSolver {
     ///
     /// A verdict is right for the items taken; where the solver is not okay, it is `Unsat` of the
     /// empty list. `IntervalOver` comes exactly where the interval made its full number of
-    /// conflicts without another answer, and the next interval is one longer. Then no clause of one
-    /// literal is held in a solver that is okay, and the newest 2000 learned clauses of more than
+    /// conflicts without another answer, and the next interval is one longer. Then a solver that is
+    /// okay holds no hard clause of one literal, and the newest 2000 learned clauses of more than
     /// two literals are left, and 100 more for each earlier interval of the call. `Spent` comes
     /// exactly where the conflicts of the call equal the limit without a verdict, and only where the
     /// limit is less than the number of conflicts that is enough for the items taken. `Asked` comes

@@ -49,7 +49,6 @@ fn start(rt: &impl Abort, alloc: Global, formula: &Formula) -> Result<OneSolver,
     ensures under_way { IfOk result (λ solver. IsUnderWay solver) }
     ensures conflicts { IfOk result (λ solver. solver.conflicts ≡ 0) }
 {
-    assert!(rt; formula.vars() <= 1000);
     assert!(rt; are_clauses(formula.items()));
     let mut solver = OneSolver::new(alloc, 0);
     solver.absorb(formula)?;

@@ -4,7 +4,7 @@ ghost use Rattle.sat_api.specs.Answers.{Answers};
 ghost use Rattle.sat_tool.specs.Reports.{IsReportOn, status_of};
 
 use crate::status::{LIMIT_SPENT, SATISFIABLE, UNSATISFIABLE};
-use sat_api::{Answer, Cause, SatSolver, negated};
+use sat_api::{Answer, Cause, SatSolver};
 use sat_lits::{List, NoMemory, Verdict};
 use std::alloc::Global;
 
@@ -44,7 +44,9 @@ pub fn report_of(alloc: Global, answer: Answer, solver: &SatSolver) -> Result<Re
         }
         Answer::Unsat => {
             let conflict = solver.get_conflict().unwrap();
-            Ok(Report::Verdict(Verdict::Unsat(negated(alloc, conflict)?)))
+            let mut failed = List::from_slice(alloc, conflict)?;
+            failed.negate();
+            Ok(Report::Verdict(Verdict::Unsat(failed)))
         }
         Answer::Unknown(Cause::Limit { counts }) => Ok(Report::Limit(counts)),
     }
