@@ -29,6 +29,16 @@ const THIRD: InLit = InLit {
     negative: false,
 };
 
+const NOT_THIRD: InLit = InLit {
+    var: Inner(2),
+    negative: true,
+};
+
+const FOURTH: InLit = InLit {
+    var: Inner(3),
+    negative: false,
+};
+
 #[test]
 fn a_false_clause_is_a_conflict(rt: HostRuntime) -> Result<(), Fail> {
     let mut store = ClauseStore::new(rt.alloc());
@@ -106,12 +116,23 @@ fn a_satisfied_clause_gives_nothing(rt: HostRuntime) -> Result<(), Fail> {
 }
 
 #[test]
-fn one_more_clause_is_taken_over(rt: HostRuntime) -> Result<(), Fail> {
+fn a_clause_that_is_attached_later_gives_its_literal(rt: HostRuntime) -> Result<(), Fail> {
     let mut store = ClauseStore::new(rt.alloc());
     let mut watches = Watches::new(rt.alloc());
-    watches.prepare(&store, 1)?;
-    let unit = store.add(&[FIRST], false)?;
-    watches.attach(&store, unit)?;
+    watches.prepare(&store, 2)?;
+    let mut first = Trail::new(rt.alloc());
+    first.reserve(2)?;
+    first.decide(NOT_FIRST);
+    assert_eq!(rt; watches.propagate(&store, &mut first), Found::Quiet);
+    watches.rewind(0);
+
+    let added = store.add(&[FIRST, SECOND], false)?;
+    watches.attach(&store, added)?;
+    let mut second = Trail::new(rt.alloc());
+    second.reserve(2)?;
+    second.decide(NOT_FIRST);
+    assert_eq!(rt; watches.propagate(&store, &mut second), Found::Quiet);
+    assert_eq!(rt; second.lits(), [NOT_FIRST, SECOND].as_slice());
     Ok(())
 }
 
@@ -133,5 +154,44 @@ fn a_clause_of_two_literals_gives_either(rt: HostRuntime) -> Result<(), Fail> {
     other.decide(NOT_SECOND);
     assert_eq!(rt; watches.propagate(&store, &mut other), Found::Quiet);
     assert_eq!(rt; other.lits(), [NOT_SECOND, FIRST].as_slice());
+    Ok(())
+}
+
+#[test]
+fn what_was_taken_back_inside_a_level_is_given_again(rt: HostRuntime) -> Result<(), Fail> {
+    let mut store = ClauseStore::new(rt.alloc());
+    store.add(&[NOT_FIRST, SECOND], false)?;
+    store.add(&[NOT_SECOND, NOT_THIRD, FOURTH], false)?;
+    let mut watches = Watches::new(rt.alloc());
+    watches.prepare(&store, 4)?;
+    let mut before = Trail::new(rt.alloc());
+    before.reserve(4)?;
+    before.decide(FIRST);
+    assert_eq!(rt; watches.propagate(&store, &mut before), Found::Quiet);
+    assert_eq!(rt; before.lits(), [FIRST, SECOND].as_slice());
+
+    // Of the two literals of level 1 the first alone stays, and a level 2 comes.
+    watches.rewind(1);
+    let mut after = Trail::new(rt.alloc());
+    after.reserve(4)?;
+    after.decide(FIRST);
+    after.decide(THIRD);
+    assert_eq!(rt; watches.propagate(&store, &mut after), Found::Quiet);
+    assert_eq!(rt; after.lits(), [FIRST, THIRD, SECOND, FOURTH].as_slice());
+    Ok(())
+}
+
+#[test]
+fn a_dropped_clause_gives_nothing(rt: HostRuntime) -> Result<(), Fail> {
+    let mut store = ClauseStore::new(rt.alloc());
+    let dropped = store.add(&[NOT_FIRST, SECOND], false)?;
+    let mut watches = Watches::new(rt.alloc());
+    watches.prepare(&store, 2)?;
+    store.drop_clause(dropped);
+    let mut trail = Trail::new(rt.alloc());
+    trail.reserve(2)?;
+    trail.decide(FIRST);
+    assert_eq!(rt; watches.propagate(&store, &mut trail), Found::Quiet);
+    assert_eq!(rt; trail.lits(), [FIRST].as_slice());
     Ok(())
 }
