@@ -11,8 +11,8 @@ use Rattle.sat_lits.specs.declared.literal.Lit.{Lit}
 use Rattle.sat_api.specs.Answers.{HasModelUnder}
 use Rattle.sat_api.specs.Decisions.{IsFound}
 use Rattle.sat_api.specs.Laws.{makes_true-StandAt}
-use Rattle.sat_api.specs.declared.decide.Found.{Found}
-use Rattle.sat_api.specs.declared.decide.Found.TheVariants as decision
+use Rattle.sat_api.specs.declared.decide.Finding.{Finding}
+use Rattle.sat_api.specs.declared.decide.Finding.TheVariants as decision
 
 -- where not all of some literals are true, one of their negations is
 one_false : (values : List Bool) (lits : List Lit) → makes_true values lits ≡ false → satisfies_clause values (map negated lits) ≡ true
@@ -28,9 +28,9 @@ pub negated_follow : (f : Problem) (assumptions failed : List Lit) → IsFailed 
 negated_follow f assumptions failed h values m = one_false values failed (h.contradict values m)
 
 -- failed assumptions that were found, in a verdict that was found
-pub found_failed : (f : Problem) (limit : Option ℕ) (conflicts : ℕ) (found : Found) (verdict : Verdict) (failed : List Lit) → found ≡ decision.Verdict verdict → verdict ≡ Unsat failed → IsFound f limit conflicts found → IsFailed f [] failed
+pub found_failed : (f : Problem) (limit : Option ℕ) (conflicts : ℕ) (found : Finding) (verdict : Verdict) (failed : List Lit) → found ≡ decision.Verdict verdict → verdict ≡ Unsat failed → IsFound f limit conflicts found → IsFailed f [] failed
 found_failed f limit conflicts found verdict failed e v h =
-    let P : Found → Type 0 = λ x. IsFound f limit conflicts x in
+    let P : Finding → Type 0 = λ x. IsFound f limit conflicts x in
     let Q : Verdict → Type 0 = λ x. IsRight f [] x in
     subst Q v (subst P e h)
 

@@ -1,9 +1,8 @@
 -- What an answer says.
 use Rattle.std.specs.Prelude.{◌≡◌, ℕ, ◌<◌, Bool, true, List, [], ◌∷◌, map, Some, None}
 use Rattle.sat_lits.specs.Conflicts.{own_count, enough}
-pub use Rattle.sat_lits.specs.Meaning.{negated}
-use Rattle.sat_lits.specs.Meaning.{Problem, IsModel}
-pub use Rattle.sat_ports.specs.Causes.{RoseBy}
+use Rattle.sat_lits.specs.Meaning.{Problem, IsModel, negated}
+use Rattle.sat_ports.specs.Causes.{RoseBy}
 use Rattle.sat_lits.specs.Verdicts.{makes_true, IsRight}
 use Rattle.sat_lits.specs.declared.literal.Lit.{Lit}
 use Rattle.sat_lits.specs.declared.verdict.Verdict.TheVariants as verdict

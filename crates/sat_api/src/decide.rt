@@ -11,7 +11,7 @@ use sat_ports::Silent;
 
 /// What the solver found.
 #[derive(Debug, Drop)]
-pub enum Found {
+pub enum Finding {
     /// A right verdict.
     Verdict(Verdict),
     /// As many conflicts as the limit allows, and no verdict.
@@ -26,7 +26,7 @@ pub fn decide(
     formula: &Formula,
     assumptions: &[Lit],
     limit: Option<u64>,
-) -> Result<Found, NoMemory>
+) -> Result<Finding, NoMemory>
     requires front { Extends (problem_in solver.old) formula.now.problem }
     requires clauses { IsTrue (list_all is_clause formula.now.problem.items) }
     requires assumptions { assumptions.now ≡ [] }
@@ -37,9 +37,9 @@ pub fn decide(
     solver.begin_call(assumptions)?;
     'intervals: loop {
         match solver.step(limit, &mut Silent::new()) {
-            StepAnswer::Verdict(verdict) => return Ok(Found::Verdict(verdict)),
+            StepAnswer::Verdict(verdict) => return Ok(Finding::Verdict(verdict)),
             StepAnswer::IntervalOver => {}
-            StepAnswer::Spent { count } => return Ok(Found::Spent { count }),
+            StepAnswer::Spent { count } => return Ok(Finding::Spent { count }),
             StepAnswer::Asked => unreachable!(),
             StepAnswer::Memory => return Err(NoMemory),
         }

@@ -7,7 +7,7 @@ ghost use Rattle.sat_lits.specs.Formulas.{with_vars, with_item, first_unknown, n
 ghost use Rattle.sat_api.specs.State.{new_solver, unanswered, with_problem, Keeps};
 ghost use Rattle.sat_api.specs.Answers.{Answers, Decides};
 
-use crate::decide::{Found, decide};
+use crate::decide::{Finding, decide};
 use crate::error::ApiError;
 use analyze::Tally;
 use one_solver::OneSolver;
@@ -158,16 +158,16 @@ impl SatSolver {
         );
         self.solver.pour(&mut self.tally);
         match found? {
-            Found::Verdict(Verdict::Sat(values)) => {
+            Finding::Verdict(Verdict::Sat(values)) => {
                 self.model = Some(values);
                 Ok(Answer::Sat)
             }
-            Found::Verdict(Verdict::Unsat(mut failed)) => {
+            Finding::Verdict(Verdict::Unsat(mut failed)) => {
                 failed.negate();
                 self.conflict = Some(failed);
                 Ok(Answer::Unsat)
             }
-            Found::Spent { count } => {
+            Finding::Spent { count } => {
                 let counts = List::from_slice(self.alloc, &[count])?;
                 Ok(Answer::Unknown(Cause::Limit { counts }))
             }

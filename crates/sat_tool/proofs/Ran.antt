@@ -10,7 +10,7 @@ use Rattle.sat_lits.specs.Verdicts.{IsFailed, StandAt, makes_true}
 use Rattle.sat_lits.specs.declared.literal.Lit.{Lit}
 use Rattle.sat_lits.specs.declared.verdict.Verdict.TheVariants as verdict
 use Rattle.sat_api.specs.State.{SolverState}
-use Rattle.sat_api.specs.Answers.{RoseBy}
+use Rattle.sat_ports.specs.Causes.{RoseBy}
 use Rattle.dimacs_text.specs.Grammar.{Reading, End, Ended, Refused, reading_of}
 use Rattle.dimacs_text.specs.Texts.{text_of_refusal}
 use Rattle.dimacs_text.specs.declared.command.Command.{Command}

@@ -3,7 +3,8 @@ use Rattle.std.proofs.Common.{◌≡◌, Bool, true, false, not, List, [], ◌�
 use Rattle.sat_lits.specs.declared.literal.Lit.{Lit}
 use Rattle.sat_lits.specs.declared.verdict.Verdict.TheVariants as verdict
 use Rattle.sat_api.specs.State.{SolverState}
-use Rattle.sat_api.specs.Answers.{Answers, negated}
+use Rattle.sat_lits.specs.Meaning.{negated}
+use Rattle.sat_api.specs.Answers.{Answers}
 use Rattle.sat_api.specs.declared.solver.Answer.{Answer}
 use Rattle.sat_api.specs.declared.solver.Answer.TheVariants.{Sat, Unsat, Unknown}
 use Rattle.sat_tool.specs.Reports.{IsVerdictOn}

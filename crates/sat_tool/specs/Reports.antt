@@ -1,15 +1,14 @@
 -- What is told of an answer, and how it is written.
 use Rattle.std.specs.Prelude.{◌≡◌, ℕ, ◌<◌, List, [], ◌∷◌, map, Some}
 use Rattle.std.specs.Io.KnownBytes.{Appends}
-use Rattle.sat_ports.specs.Causes.{Rose}
+use Rattle.sat_ports.specs.Causes.{Rose, RoseBy}
 use Rattle.sat_ports.specs.Writes.{AppendsFront}
 use Rattle.sat_lits.specs.Conflicts.{own_count, enough}
-use Rattle.sat_lits.specs.Meaning.{Problem}
+use Rattle.sat_lits.specs.Meaning.{Problem, negated}
 use Rattle.sat_lits.specs.Verdicts.{IsRight}
 use Rattle.sat_lits.specs.declared.verdict.Verdict.{Verdict}
 use Rattle.sat_lits.specs.declared.verdict.Verdict.TheVariants.{Sat, Unsat}
 use Rattle.sat_api.specs.State.{SolverState}
-use Rattle.sat_api.specs.Answers.{negated, RoseBy}
 use Rattle.dimacs_text.specs.Texts.{text_of_verdict, text_of_limit, text_of_refusal}
 use Rattle.dimacs_text.specs.declared.refusal.Refusal.{Refusal}
 use Rattle.sat_tool.specs.Writing.{Port}
