@@ -315,7 +315,7 @@ fn a_limit_of_zero_leaves_the_verdict_or_is_spent(rt: HostRuntime) -> Result<(),
 fn pigeons_do_not_fit(rt: HostRuntime) -> Result<(), Fail> {
     let spent = b"s INDETERMINATE\nc limit 10\n".as_slice();
     let rows: [(i32, i32, &[&str], &[u8], u8); 2] = [
-        (5, 4, &[], NO_MODEL_OUTPUT, 20),
+        (6, 5, &[], NO_MODEL_OUTPUT, 20),
         (7, 6, &["--maxconfl", "10"], spent, 15),
     ];
     for (pigeons, holes, words, output, status) in rows {
@@ -371,6 +371,27 @@ fn pieces_of_any_size_give_the_same_output(rt: HostRuntime) -> Result<(), Fail> 
         );
         assert_eq!(rt; sink.bytes(), BOTH_OUTPUT, "at {piece}");
     }
+    Ok(())
+}
+
+/// A text over and over.
+fn repeated(alloc: Global, text: &[u8], times: usize) -> Result<Vec<u8>, Fail> {
+    let mut long = Vec::new(alloc);
+    for _ in 0..times {
+        long.extend_from_slice(text)?;
+    }
+    Ok(long)
+}
+
+/// The text takes two reads. The first ends between the minus and the digit of a literal.
+#[test]
+fn a_text_of_two_pieces_is_read_whole(rt: HostRuntime) -> Result<(), Fail> {
+    let text = repeated(rt.alloc(), BOTH, 3300)?;
+    assert_eq!(rt; text.len(), 66_000);
+    let mut sink = wide_sink(&rt, &[])?;
+    let status = run_on(&rt, &mut PlainSource::new(&text), &mut sink);
+    assert_eq!(rt; status, 10);
+    assert_eq!(rt; sink.bytes(), BOTH_OUTPUT);
     Ok(())
 }
 
