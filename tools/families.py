@@ -8,8 +8,9 @@ Run it from anywhere, with Python 3 and no arguments:
 It makes uniform random formulas of clauses of three different variables at 4.26 clauses a variable,
 ten for each number of variables; 8 pigeons in 7 holes; a random formula of 5000 variables and 18000
 clauses that a planted assignment satisfies; a chain of 100000 clauses of two literals that a clause
-of one literal sets off; and a random formula of 500000 clauses over 300000 variables. Each comes
-from a fixed seed, so that each run has the same ones, and goes to ./torimbava, which is built before
+of one literal sets off, and one of a million; a random formula of 500000 clauses over 300000
+variables; and planted formulas a tenth or a third of whose clauses have one literal. Each comes from
+a fixed seed, so that each run has the same ones, and goes to ./torimbava, which is built before
 the first. For each family it prints the processor seconds of the program, and of minisat in the same
 run: the sum, the median and the greatest. A run has a minute of waiting; one that takes longer is
 told and left out. Verdicts that differ end it with status 1. The proofs and the tests need none of
@@ -61,6 +62,20 @@ def planted(variables, count):
     return clauses
 
 
+def with_units(variables, count, units):
+    """The values of some variables of a planted assignment, and random clauses that it satisfies."""
+    draws = random.Random(f"{SEED} units {variables} {count} {units}")
+    values = [draws.random() < 0.5 for _ in range(variables + 1)]
+    known = draws.sample(range(1, variables + 1), units)
+    clauses = [[variable if values[variable] else -variable] for variable in known]
+    while len(clauses) < count:
+        clause = random_clause(draws, variables)
+        if any(values[abs(literal)] == (literal > 0) for literal in clause):
+            clauses.append(clause)
+    draws.shuffle(clauses)
+    return clauses
+
+
 def chain(count):
     """The first variable is true, and each makes the next one true."""
     return [[1]] + [[-variable, variable + 1] for variable in range(1, count + 1)]
@@ -75,7 +90,12 @@ def families():
     yield "8 pigeons in 7 holes", iter([pigeons(8, 7)])
     yield "planted, 5000 variables, 18000 clauses", iter([planted(5000, 18000)])
     yield "chain of 100000 clauses", iter([chain(100000)])
+    yield "chain of 1000000 clauses", (chain(1000000) for _ in range(1))
     yield "300000 variables, 500000 clauses", (uniform(300000, 500000, i) for i in range(1))
+    yield "33333 variables, 100000 clauses, 33333 units", iter([with_units(33333, 100000, 33333)])
+    yield "300000 variables, 1000000 clauses, 100000 units", (
+        with_units(300000, 1000000, 100000) for _ in range(1)
+    )
 
 
 def seconds_of(command, text):
@@ -99,11 +119,12 @@ def with_header(clauses):
 
 def measure(name, clauses, other):
     """The seconds of the program and of the other solver, each None where its time was over."""
-    text = with_header(clauses)
-    status, seconds = seconds_of([str(PROGRAM)], text)
+    status, seconds = seconds_of([str(PROGRAM)], text_of(clauses))
     if status not in (None, SATISFIABLE, UNSATISFIABLE):
         fail(f"{name}: status {status}")
-    other_status, other_seconds = seconds_of([other, "-verb=0"], text) if other else (None, None)
+    other_status, other_seconds = None, None
+    if other:
+        other_status, other_seconds = seconds_of([other, "-verb=0"], with_header(clauses))
     if None not in (status, other_status) and status != other_status:
         fail(f"{name}: status {status} where {other} has {other_status}")
     return seconds if status else None, other_seconds if other_status else None

@@ -11,7 +11,7 @@ use Rattle.state_laws.specs.RootTableLaws.{entry_of}
 use Rattle.state_laws.specs.Kernel.{Kernel, state_of}
 use Rattle.private_state.specs.Removed.{fixed_value}
 use Rattle.one_solver.specs.declared.units.Length.{Length}
-use Rattle.one_solver.specs.declared.units.Length.TheVariants as length
+use Rattle.one_solver.specs.declared.units.Length.TheVariants as lengths
 use Rattle.one_solver.specs.declared.units.Short.{Short}
 use Rattle.one_solver.specs.declared.units.Short.TheVariants.{Empty, Single, End}
 
@@ -34,9 +34,9 @@ is_unit test (l ∷ k ∷ c) = false
 
 -- the length of a clause is told
 abbrev pub IsLength : List InLit → Length → Type 0
-IsLength lits length.Empty = lits ≡ []
-IsLength lits (length.Single l) = lits ≡ l ∷ []
-IsLength lits length.Longer = is_short lits ≡ false
+IsLength lits lengths.Empty = lits ≡ []
+IsLength lits (lengths.Single l) = lits ≡ l ∷ []
+IsLength lits lengths.Longer = is_short lits ≡ false
 
 -- each of these clauses has more than one literal
 abbrev pub are_long : List Held → Bool

@@ -1,13 +1,11 @@
 ghost use Rattle.std.specs.Prelude.{◌≡◌, Some, IfSome, OnOk, IsTrue};
 ghost use Rattle.clause_store.specs.Store.{IsKept, Held, clause_at, is_live};
-ghost use Rattle.state_laws.specs.Held.{own_of};
 ghost use Rattle.one_solver.specs.Basic.{IsBasic};
 ghost use Rattle.one_solver.specs.Units.{IsLength, FindsShort, HasNoUnits, FixesUnits, TookSame};
 
 use clause_store::ClauseStore;
-use private_state::PrivateState;
-use sat_lits::{ClauseId, InLit, NoMemory, Own, OwnLit};
-use var_maps::VarMaps;
+use private_state::{PrivateState, own_lit};
+use sat_lits::{ClauseId, InLit, NoMemory};
 
 /// How many literals a clause has, as far as it matters here.
 #[derive(Clone, Copy, Debug, PartialEq, Eq)]
@@ -102,19 +100,5 @@ fn length_of(store: &ClauseStore, id: ClauseId) -> Length
         [] => Length::Empty,
         [lit] => Length::Single(*lit),
         _ => Length::Longer,
-    }
-}
-
-/// A stored literal in own numbers.
-fn own_lit(maps: &VarMaps, lit: InLit) -> OwnLit
-    ensures { result ≡ own_of maps.now lit }
-{
-    let var = match maps.at_inner(lit.var) {
-        Some(own) => own,
-        None => Own(maps.own_len()),
-    };
-    OwnLit {
-        var,
-        negative: lit.negative,
     }
 }

@@ -9,7 +9,7 @@ ghost use Rattle.var_maps.specs.Maps.{Matched, inner_at};
 ghost use Rattle.state_laws.specs.Held.{has_inner, own_clause, is_ready, touches, numbers, without_ids, Adds};
 ghost use Rattle.private_state.specs.Fresh.{in_clauses, are_distinct, Collects, Listed};
 
-use crate::own_lits::{in_lits, own_lits};
+use crate::literals::{in_lits, own_lits};
 use crate::put_in::{put_in_entry, var_of};
 use clause_store::ClauseStore;
 use indexed_store::IndexedStore;

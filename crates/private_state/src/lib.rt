@@ -6,8 +6,8 @@
 #![tactic(auto)]
 
 mod collect;
+mod literals;
 mod own_form;
-mod own_lits;
 mod put_in;
 mod removed;
 mod state;
@@ -15,5 +15,6 @@ mod state;
 mod tests;
 mod values;
 
+pub use literals::{own_lit, own_lits};
 pub use state::PrivateState;
 pub use state_laws::Definition;

@@ -7,7 +7,7 @@ ghost use Rattle.state_laws.specs.Held.{own_clause, own_outer, has_inner, Extend
 ghost use Rattle.private_state.specs.Removed.{IsInOrder};
 ghost use Rattle.private_state.specs.Fresh.{hard_in};
 
-use crate::own_lits::{in_lits, outer_lit};
+use crate::literals::{in_lits, outer_lit};
 use crate::put_in::put_in;
 use crate::removed::RemovedVars;
 use indexed_store::IndexedStore;

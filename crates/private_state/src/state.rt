@@ -16,8 +16,8 @@ ghost use Rattle.private_state.specs.Removed.{last_lit, fixed_value};
 ghost use Rattle.private_state.specs.Taking.{IsTakable, item_taken};
 
 use crate::collect::{add_all, collect, drop_all};
+use crate::literals::in_lits;
 use crate::own_form::{add_hard, own_form};
-use crate::own_lits::in_lits;
 use crate::put_in::var_of;
 use crate::removed::{RemovedVars, Status};
 use crate::values::{outer_values, own_values};

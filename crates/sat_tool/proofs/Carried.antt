@@ -10,7 +10,7 @@ use Rattle.std.proofs.lemmas.List.Folds.{list_all-append}
 use Rattle.std.proofs.lemmas.List.Sums.{sum_by-append}
 use Rattle.sat_lits.specs.Limits.{standard_limits}
 use Rattle.sat_lits.specs.Meaning.{Problem}
-use Rattle.sat_lits.specs.Formulas.{names_known, numbers_of, lit_count}
+use Rattle.sat_lits.specs.Formulas.{no_problem, names_known, numbers_of, lit_count}
 use Rattle.sat_lits.specs.declared.formula.Item.{Item}
 use Rattle.sat_api.specs.State.{SolverState}
 use Rattle.dimacs_text.specs.Grammar.{Ended, Refused, reading_of}
@@ -19,22 +19,22 @@ use Rattle.dimacs_text.specs.Reads.{HasRead, Gives, Concludes}
 use Rattle.dimacs_text.specs.declared.command.Command.{Command}
 use Rattle.dimacs_text.specs.declared.refusal.Refusal.{Refusal}
 use Rattle.dimacs_text.specs.declared.reader.Reader.{Reader}
-use Rattle.sat_tool.specs.Questions.{greatest, reach, after_all, problem_of, nothing_yet}
+use Rattle.sat_tool.specs.Questions.{greatest, reach, after_all, problem_of}
 use Rattle.sat_tool.specs.Progress.{HasRoomFor, HasCarried, HasCarriedAll, Reads, ReadsRefusal, ReadsNoMore}
 use Rattle.sat_tool.proofs.Formulas.{after_all-append, command_reach}
 
-commands_reach : (cs : List Command) → list_all (names_known 16777215) (map item_of cs) ≡ true → greatest (map reach cs) ≤ 16777215
+commands_reach : (cs : List Command) → list_all (names_known standard_limits.vars) (map item_of cs) ≡ true → greatest (map reach cs) ≤ standard_limits.vars
 commands_reach [] e = omega arith
 commands_reach (c ∷ cs) e =
-    let a : (names_known 16777215 (item_of c) ≡ true) × (list_all (names_known 16777215) (map item_of cs) ≡ true) = and_parts _ _ e in
+    let a : (names_known standard_limits.vars (item_of c) ≡ true) × (list_all (names_known standard_limits.vars) (map item_of cs) ≡ true) = and_parts _ _ e in
     omega (arith, command_reach c a.0, commands_reach cs a.1)
 
 -- what the reader hands on has room, behind what it gave before
 room_behind : (given commands : List Command) (s : SolverState) → s.problem ≡ problem_of given → s.limits ≡ standard_limits → AreWithin standard_limits (given ++ commands) → HasRoomFor commands s
 room_behind given commands s p l w =
-    let split : list_all (names_known 16777215) (map item_of (given ++ commands)) ≡ (list_all (names_known 16777215) (map item_of given) && list_all (names_known 16777215) (map item_of commands))
-    = ap (list_all (names_known 16777215)) (map-append item_of given commands) ∙ list_all-append (names_known 16777215) (map item_of given) (map item_of commands) in
-    let known : (list_all (names_known 16777215) (map item_of given) ≡ true) × (list_all (names_known 16777215) (map item_of commands) ≡ true) = and_parts _ _ (sym split ∙ w.known) in
+    let split : list_all (names_known standard_limits.vars) (map item_of (given ++ commands)) ≡ (list_all (names_known standard_limits.vars) (map item_of given) && list_all (names_known standard_limits.vars) (map item_of commands))
+    = ap (list_all (names_known standard_limits.vars)) (map-append item_of given commands) ∙ list_all-append (names_known standard_limits.vars) (map item_of given) (map item_of commands) in
+    let known : (list_all (names_known standard_limits.vars) (map item_of given) ≡ true) × (list_all (names_known standard_limits.vars) (map item_of commands) ≡ true) = and_parts _ _ (sym split ∙ w.known) in
     let count = λ (item : Item). length (numbers_of item) in
     let counted : lit_count (map item_of (given ++ commands)) ≡ lit_count (map item_of given) + lit_count (map item_of commands)
     = ap lit_count (map-append item_of given commands) ∙ sum_by-append count (map item_of given) (map item_of commands) in
@@ -49,7 +49,7 @@ room_behind given commands s p l w =
 -- commands that were carried out behind others
 carried_behind : (given commands now : List Command) (s t : SolverState) → now ≡ [] ++ commands → s.problem ≡ problem_of given → t.problem ≡ after_all s.problem now → t.problem ≡ problem_of (given ++ commands)
 carried_behind given commands now s t a p q =
-    q ∙ ap (λ (cs : List Command). after_all s.problem cs) a ∙ ap (λ (f : Problem). after_all f commands) p ∙ after_all-append nothing_yet given commands
+    q ∙ ap (λ (cs : List Command). after_all s.problem cs) a ∙ ap (λ (f : Problem). after_all f commands) p ∙ after_all-append no_problem given commands
 
 -- a piece has room
 pub piece_room : (text : List ℕ) (reader new : Reader) (piece : List ℕ) (before now : List Command) (s : SolverState) → before ≡ [] → HasCarried text reader s → Gives reader new piece before now → HasRoomFor now s

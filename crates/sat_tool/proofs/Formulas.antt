@@ -3,6 +3,7 @@ use Rattle.std.proofs.Common.{◌≡◌, ℕ, suc, ◌+◌, ◌<◌, ◌≤◌, 
 use Rattle.std.specs.List.{list_all}
 use Rattle.std.proofs.lemmas.Bool.{and_parts, and_from, ltb-true, lt-ltb}
 use Rattle.std.proofs.lemmas.List.Folds.{list_all-map}
+use Rattle.sat_lits.specs.Limits.{standard_limits}
 use Rattle.sat_lits.specs.Laws.{all_at}
 use Rattle.std.proofs.lemmas.List.{map-append, take_more}
 use Rattle.std.proofs.lemmas.List.Sums.{sum_by-append, sum_by-cons}
@@ -61,7 +62,7 @@ reach_more lits i d vars h e =
 -- the room for some commands is room for the first, and then for the others
 pub room_first : (c : Command) (cs : List Command) (s : SolverState) → HasRoomFor (c ∷ cs) s → HasRoomFor (c ∷ []) s
 room_first c cs s h =
-    let known : (names_known 16777215 (item_of c) ≡ true) × (list_all (names_known 16777215) (map item_of cs) ≡ true) = and_parts _ _ h.known in
+    let known : (names_known standard_limits.vars (item_of c) ≡ true) × (list_all (names_known standard_limits.vars) (map item_of cs) ≡ true) = and_parts _ _ h.known in
     record {
       limits = h.limits;
       vars = h.vars;
@@ -69,12 +70,12 @@ room_first c cs s h =
       few = omega (arith, h.few, sum_by-cons (λ item. length (numbers_of item)) (item_of c) (map item_of cs), sum_by-cons (λ item. length (numbers_of item)) (item_of c) []);
     }
 
-pub command_reach : (c : Command) → names_known 16777215 (item_of c) ≡ true → reach c ≤ 16777215
-command_reach (Clause lits) e = greatest_known 16777215 lits e
+pub command_reach : (c : Command) → names_known standard_limits.vars (item_of c) ≡ true → reach c ≤ standard_limits.vars
+command_reach (Clause lits) e = greatest_known standard_limits.vars lits e
 
 pub room_rest : (c : Command) (cs : List Command) (s t : SolverState) → HasRoomFor (c ∷ cs) s → t.problem ≡ after_all s.problem (c ∷ []) → t.limits ≡ s.limits → HasRoomFor cs t
 room_rest c cs s t h p l =
-    let known : (names_known 16777215 (item_of c) ≡ true) × (list_all (names_known 16777215) (map item_of cs) ≡ true) = and_parts _ _ h.known in
+    let known : (names_known standard_limits.vars (item_of c) ≡ true) × (list_all (names_known standard_limits.vars) (map item_of cs) ≡ true) = and_parts _ _ h.known in
     let reached = command_reach c known.0 in
     let count = λ (item : Item). length (numbers_of item) in
     let counted : lit_count t.problem.items ≡ lit_count s.problem.items + lit_count (item_of c ∷ []) =

@@ -4,7 +4,7 @@ use Rattle.std.specs.declared.option.Option.{Option}
 use Rattle.std.specs.List.{list_all}
 use Rattle.std.specs.Io.KnownBytes.{Consumes, IsAtEnd}
 use Rattle.sat_lits.specs.Limits.{standard_limits}
-use Rattle.sat_lits.specs.Formulas.{names_known, lit_count}
+use Rattle.sat_lits.specs.Formulas.{no_problem, names_known, lit_count}
 use Rattle.sat_api.specs.State.{SolverState, with_problem}
 use Rattle.dimacs_text.specs.Grammar.{Ended, Refused, reading_of}
 use Rattle.dimacs_text.specs.Reads.{HasRead}
@@ -12,18 +12,18 @@ use Rattle.dimacs_text.specs.Commands.{item_of}
 use Rattle.dimacs_text.specs.declared.command.Command.{Command}
 use Rattle.dimacs_text.specs.declared.refusal.Refusal.{Refusal}
 use Rattle.dimacs_text.specs.declared.reader.Reader.{Reader}
-use Rattle.sat_tool.specs.Questions.{nothing_yet, problem_of}
+use Rattle.sat_tool.specs.Questions.{problem_of}
 
 -- a solver without its formula and its answer: its limits, and the conflicts that it counted
 abbrev pub settings_of : SolverState → SolverState
-settings_of s = with_problem nothing_yet s
+settings_of s = with_problem no_problem s
 
 -- the commands fit into the solver's limits, so that it can refuse them for want of memory alone
 pub record HasRoomFor (commands : List Command) (solver : SolverState) : Type 0 where
   pub limits : solver.limits ≡ standard_limits
-  pub vars : solver.problem.vars ≤ 16777215
-  pub known : list_all (names_known 16777215) (map item_of commands) ≡ true
-  pub few : lit_count solver.problem.items + lit_count (map item_of commands) ≤ 33554432
+  pub vars : solver.problem.vars ≤ standard_limits.vars
+  pub known : list_all (names_known standard_limits.vars) (map item_of commands) ≡ true
+  pub few : lit_count solver.problem.items + lit_count (map item_of commands) ≤ standard_limits.lits
 
 -- the text so far was read, and its commands were carried out
 pub record HasCarried (text : List ℕ) (reader : Reader) (solver : SolverState) : Type 0 where

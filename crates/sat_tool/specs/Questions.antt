@@ -1,6 +1,7 @@
 -- The formula of some commands.
 use Rattle.std.specs.Prelude.{ℕ, suc, max, List, [], ◌∷◌, ◌++◌, map}
 use Rattle.sat_lits.specs.Meaning.{Problem}
+use Rattle.sat_lits.specs.Formulas.{no_problem}
 use Rattle.dimacs_text.specs.declared.command.Command.{Command}
 use Rattle.dimacs_text.specs.declared.command.Command.TheVariants.{Clause}
 use Rattle.dimacs_text.specs.Commands.{item_of}
@@ -18,9 +19,6 @@ reach (Clause lits) = greatest (map (λ l. suc l.var.0) lits)
 abbrev pub after_all : Problem → List Command → Problem
 after_all f commands = record { vars = max f.vars (greatest (map reach commands)); items = f.items ++ map item_of commands }
 
-abbrev pub nothing_yet : Problem
-nothing_yet = record { vars = 0; items = [] }
-
 -- the formula of a list of commands
 abbrev pub problem_of : List Command → Problem
-problem_of commands = after_all nothing_yet commands
+problem_of commands = after_all no_problem commands

@@ -1,4 +1,5 @@
 ghost use Rattle.std.specs.Prelude.{◌≡◌, ◌≤◌, ◌+◌, [], ◌∷◌, length, OnOk, max, true};
+ghost use Rattle.sat_lits.specs.Limits.{standard_limits};
 ghost use Rattle.sat_lits.specs.Formulas.{names_known, lit_count, with_item};
 ghost use Rattle.sat_lits.specs.declared.formula.Item.TheVariants.{Clause as ClauseItem};
 ghost use Rattle.dimacs_text.specs.declared.command.Command.TheVariants.{Clause};
@@ -11,9 +12,9 @@ use sat_lits::{Lit, NoMemory};
 
 /// The number of variables that the literals need.
 fn reach_of(lits: &[Lit]) -> u32
-    requires { names_known 16777215 (ClauseItem lits.now) ≡ true }
+    requires { names_known standard_limits.vars (ClauseItem lits.now) ≡ true }
     ensures value { result ≡ reach (Clause lits.now) }
-    ensures within { result ≤ 16777215 }
+    ensures within { result ≤ standard_limits.vars }
 {
     let mut vars: u32 = 0;
     for lit in lits {

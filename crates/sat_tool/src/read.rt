@@ -3,7 +3,7 @@ ghost use Rattle.sat_lits.specs.Limits.{standard_limits};
 ghost use Rattle.sat_ports.specs.Causes.{Rose};
 ghost use Rattle.dimacs_text.specs.Grammar.{Refused, reading_of};
 ghost use Rattle.dimacs_text.specs.declared.refusal.Refusal.{Refusal as Why};
-ghost use Rattle.sat_tool.specs.Questions.{nothing_yet};
+ghost use Rattle.sat_lits.specs.Formulas.{no_problem};
 ghost use Rattle.sat_tool.specs.Progress.{HasCarried, HasCarriedAll, ReadsAll, ReadsRefusal, ReadsNoMore, settings_of};
 
 use crate::carry::carry_out_all;
@@ -59,7 +59,7 @@ pub fn read_formula<S: Source>(
     solver: &mut SatSolver,
 ) -> Result<(), Unread>
     requires room { 0 < length piece.old }
-    requires empty { solver.old.problem ≡ nothing_yet }
+    requires empty { solver.old.problem ≡ no_problem }
     requires limits { solver.old.limits ≡ standard_limits }
     ensures ok { OnOk result (ReadsAll (S.left source.old) (S.left source.new) solver.new) }
     ensures refused { (why : Why) → result ≡ Err (Unread.Refused why)

@@ -1,7 +1,7 @@
 ghost use Rattle.std.specs.Prelude.{◌≡◌, IfOk, IfErr, map};
 ghost use Rattle.sat_lits.specs.Limits.{standard_limits};
 ghost use Rattle.sat_api.specs.State.{new_solver};
-ghost use Rattle.sat_tool.specs.Questions.{nothing_yet};
+ghost use Rattle.sat_lits.specs.Formulas.{no_problem};
 ghost use Rattle.sat_tool.specs.Writing.{port};
 ghost use Rattle.sat_tool.specs.Progress.{ReadsNoMore};
 ghost use Rattle.sat_tool.specs.Reports.{status_of};
@@ -30,7 +30,7 @@ fn serve<R: Threads + Sync, S: Source, K: Sink, A: Alarm + Send>(
     alarm: &mut A,
     solver: &mut SatSolver,
 ) -> Result<Report, NoReport>
-    requires empty { solver.old.problem ≡ nothing_yet }
+    requires empty { solver.old.problem ≡ no_problem }
     requires limits { solver.old.limits ≡ standard_limits }
     ensures ok { IfOk result (λ report. AnswersText (status_of report)
         (port (S.left source.old) (S.faults source.old)) (port (S.left source.new) (S.faults source.new))

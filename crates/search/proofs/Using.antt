@@ -8,9 +8,6 @@ use Rattle.sat_lits.specs.ListLaws.{all_mono}
 use Rattle.sat_lits.specs.declared.literal.Own.{Own}
 use Rattle.sat_lits.specs.declared.literal.Inner.{Inner}
 use Rattle.sat_lits.specs.declared.literal.InLit.{InLit}
-use Rattle.sat_lits.specs.declared.literal.OwnLit.{OwnLit}
-use Rattle.var_maps.specs.Maps.{Maps, owner_at}
-use Rattle.state_laws.specs.Held.{own_or, own_of, own_clause}
 use Rattle.clause_store.specs.Store.{Held}
 use Rattle.propagate.specs.Watching.{lits_below, clauses_below, steps_below}
 use Rattle.trail.specs.declared.trail.Step.{Step}
@@ -98,11 +95,3 @@ number_passed owners numbers k h e m = go (get_or owners k None) refl e
     go : (o : Option Own) → get_or owners k None ≡ o → is_some o ≡ false → map (λ (i : Inner). i.0) numbers ≡ owned_from 0 (take (k + 1) owners)
     go None f g = m ∙ (sym (append-nil (owned_from 0 (take k owners))) ∙ sym (owned_more owners k None h f))
     go (Some v) f g = absurd (true≢false g)
-
--- a clause with one literal more in own literals
-pub own_more : (m : Maps) (lits : List InLit) (k : ℕ) (l : InLit) (v : Own) (d : InLit) → k < length lits → get_or lits k d ≡ l → owner_at m l.var.0 ≡ Some v → own_clause m (take (k + 1) lits) ≡ own_clause m (take k lits) ++ record { var = v; negative = l.negative } ∷ []
-own_more m lits k l v d h e f =
-    ap (λ (j : ℕ). own_clause m (take j lits)) (add-one k)
-    ∙ (ap (own_clause m) (take-suc lits k d h)
-    ∙ (map-append (own_of m) (take k lits) (get_or lits k d ∷ [])
-    ∙ ap (λ (z : OwnLit). own_clause m (take k lits) ++ z ∷ []) (ap (own_of m) e ∙ ap (λ (o : Option Own). record { var = own_or (length m.inners) o; negative = l.negative }) f)))

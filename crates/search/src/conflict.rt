@@ -12,11 +12,10 @@ ghost use Rattle.search.specs.Ordering.{lits_ordered, steps_ordered, HasSame};
 ghost use Rattle.search.specs.Learning.{HasAdded, HasLearned};
 ghost use Rattle.search.specs.Searching.{AtMove, EndsShort, gone_back};
 
-use crate::lists::own_lits;
 use crate::work::Work;
 use analyze::{Learned, Tally};
 use pick_order::PickOrder;
-use private_state::PrivateState;
+use private_state::{PrivateState, own_lits};
 use sat_lits::{ClauseId, InLit, NoMemory};
 use std::alloc::Global;
 use trail::Trail;

@@ -1,9 +1,7 @@
-ghost use Rattle.std.specs.Prelude.{◌≡◌, map, IfOk, IsTrue};
-ghost use Rattle.var_maps.specs.Maps.{Matched};
-ghost use Rattle.state_laws.specs.Held.{own_clause};
-ghost use Rattle.search.specs.InUse.{in_use, lits_among};
+ghost use Rattle.std.specs.Prelude.{◌≡◌, map, IfOk};
+ghost use Rattle.search.specs.InUse.{in_use};
 
-use sat_lits::{InLit, Inner, List, NoMemory, OwnLit};
+use sat_lits::{Inner, List, NoMemory};
 use std::alloc::Global;
 use var_maps::VarMaps;
 
@@ -18,22 +16,4 @@ pub fn numbers_in_use(alloc: Global, maps: &VarMaps) -> Result<List<Inner>, NoMe
         }
     }
     Ok(numbers)
-}
-
-/// A clause over inner numbers in use, in own literals.
-pub fn own_lits(alloc: Global, maps: &VarMaps, lits: &[InLit]) -> Result<List<OwnLit>, NoMemory>
-    requires { IsTrue (lits_among (in_use maps.now) lits.now) }
-    ensures own { IfOk result (λ own. own ≡ own_clause maps.now lits.now) }
-    ensures matched { Matched maps.now }
-{
-    // That the maps match is known from here on, also where there is no literal.
-    let _len = maps.inner_len();
-    let mut own = List::new(alloc);
-    for lit in lits {
-        own.push(OwnLit {
-            var: maps.at_inner(lit.var).unwrap(),
-            negative: lit.negative,
-        })?;
-    }
-    Ok(own)
 }

@@ -9,10 +9,10 @@ pub in_lits-requires : goal.in_lits-requires
 in_lits-requires c =
     rw c.as_slice-2.ensures
     (put_active c.args.maps.now (root (c.args.entry.now ∷ [])) (own_clause c.args.maps.now c.args.lits.now) c.in-Some.clause c.requires
-    (sym c.in-Some.is ∙ (c.in_ok-clause.ensures ∙ ap (put_in (root (c.args.entry.now ∷ []))) (c.as_slice.ensures ∙ c.in_ok-own.ensures))))
+    (sym c.in-Some.is ∙ (c.in_ok-clause.ensures ∙ ap (put_in (root (c.args.entry.now ∷ []))) (c.as_slice.ensures ∙ c.in_ok-own.ensures.own))))
 
 pub returns-clause-distinct : goal.returns-clause-distinct
 returns-clause-distinct c =
     put_distinct c.args.maps.now (root (c.args.entry.now ∷ [])) (own_clause c.args.maps.now c.args.lits.now) c.in-Some.clause c.in_ok-stored.stored
-    (sym c.in-Some.is ∙ (c.in_ok-clause.ensures ∙ ap (put_in (root (c.args.entry.now ∷ []))) (c.as_slice.ensures ∙ c.in_ok-own.ensures)))
+    (sym c.in-Some.is ∙ (c.in_ok-clause.ensures ∙ ap (put_in (root (c.args.entry.now ∷ []))) (c.as_slice.ensures ∙ c.in_ok-own.ensures.own)))
     (c.in_ok-stored.ensures ∙ c.as_slice-2.ensures)

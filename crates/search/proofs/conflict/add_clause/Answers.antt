@@ -1,9 +1,8 @@
-use Rattle.std.proofs.Common.{◌≡◌, true, sym, ap, subst, ◌∙◌}
+use Rattle.std.proofs.Common.{◌≡◌, sym, ap, subst, ◌∙◌}
 use Rattle.var_maps.specs.Maps.{Maps, Matched}
 use Rattle.state_laws.specs.Held.{own_clause}
 use Rattle.state_laws.specs.Conditions.{Learnable}
 use Rattle.state_laws.specs.Kernel.{state_of}
-use Rattle.search.specs.InUse.{in_use, lits_among}
 use Rattle.search.proofs.Owning.{may_learn, added}
 use Rattle.search.proofs.conflict.add_clause.Goals as goal
 use Rattle.search.proofs.conflict.add_clause.Goals.{After-as_slice}
@@ -13,9 +12,6 @@ own_is c = c.as_slice.ensures ∙ (c.in_ok-own.ensures.own ∙ ap (λ (m : Maps)
 
 matched : (c : After-as_slice) → Matched c.args.state.now.maps
 matched c = subst Matched c.maps.ensures.value c.own_lits.ensures.matched
-
-pub own_lits-requires : goal.own_lits-requires
-own_lits-requires c = subst (λ (m : Maps). lits_among (in_use m) c.args.lits.now ≡ true) (sym c.maps.ensures.value) c.requires.active
 
 pub add_learned-requires : goal.add_learned-requires
 add_learned-requires c =

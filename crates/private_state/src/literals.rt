@@ -1,13 +1,15 @@
 ghost use Rattle.std.specs.Prelude.{◌≡◌, ◌<◌, true, length, IfOk};
 ghost use Rattle.std.specs.List.{list_all};
+ghost use Rattle.var_maps.specs.Maps.{Matched};
 ghost use Rattle.state_laws.specs.Held.{own_of, own_clause, own_outer, has_inner};
 
 use sat_lits::{InLit, List, Lit, NoMemory, Own, OwnLit};
 use std::alloc::Global;
 use var_maps::VarMaps;
 
-/// A stored literal in own numbers.
-fn own_lit(maps: &VarMaps, lit: InLit) -> OwnLit
+/// A stored literal in own numbers. Where no variable has its inner number, it is one of the variable
+/// that comes after all.
+pub fn own_lit(maps: &VarMaps, lit: InLit) -> OwnLit
     ensures { result ≡ own_of maps.now lit }
 {
     let var = match maps.at_inner(lit.var) {
@@ -20,14 +22,13 @@ fn own_lit(maps: &VarMaps, lit: InLit) -> OwnLit
     }
 }
 
-/// A stored clause in own literals.
-pub(crate) fn own_lits(
-    alloc: Global,
-    maps: &VarMaps,
-    lits: &[InLit],
-) -> Result<List<OwnLit>, NoMemory>
-    ensures { IfOk result (λ own. own ≡ own_clause maps.now lits.now) }
+/// A stored clause in own literals. The only error is want of memory.
+pub fn own_lits(alloc: Global, maps: &VarMaps, lits: &[InLit]) -> Result<List<OwnLit>, NoMemory>
+    ensures own { IfOk result (λ own. own ≡ own_clause maps.now lits.now) }
+    ensures matched { Matched maps.now }
 {
+    // That the maps match is known from here on, also where there is no literal.
+    let _len = maps.inner_len();
     let mut own = List::new(alloc);
     for lit in lits {
         own.push(own_lit(maps, *lit))?;
