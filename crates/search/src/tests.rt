@@ -212,18 +212,27 @@ fn outer_model(
     state.outer_model(values)
 }
 
+/// The outer model that one interval of a search that is made anew finds, if it finds one.
+fn model_of(
+    rt: &impl Abort,
+    alloc: Global,
+    state: &mut PrivateState,
+) -> Result<Option<List<bool>>, NoMemory> {
+    let mut search = Search::new(alloc, false);
+    let mut tally = Tally::new();
+    let answer = search.run_interval(state, &[], 0, None, &mut Silent::new(), &mut tally);
+    assert!(rt; tally.count() == search.conflicts());
+    let IntervalAnswer::Model(values) = answer else {
+        return Ok(None);
+    };
+    Ok(Some(outer_model(rt, state, values.as_slice())?))
+}
+
 #[test]
 fn a_satisfiable_formula_has_its_model(rt: HostRuntime) -> Result<(), Fail> {
     let mut state = formula_of(&rt, rt.alloc(), 2, &[&[1, 2], &[-1, 2], &[1, -2]])?;
-    let mut search = Search::new(rt.alloc(), false);
-    let mut tally = Tally::new();
-    let answer = search.run_interval(&mut state, &[], 0, None, &mut Silent::new(), &mut tally);
-    let IntervalAnswer::Model(values) = answer else {
-        return Err("no model")?;
-    };
-    let model = outer_model(&rt, &state, values.as_slice())?;
+    let model = model_of(&rt, rt.alloc(), &mut state)?.ok_or("no model")?;
     assert_eq!(rt; model.as_slice(), [true, true].as_slice());
-    assert_eq!(rt; tally.count(), search.conflicts());
     Ok(())
 }
 
