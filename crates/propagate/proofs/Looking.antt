@@ -1,6 +1,6 @@
 -- One clause, literal by literal.
-use Rattle.std.proofs.Common.{◌≡◌, ℕ, Bool, true, false, cond, not, eqb, ◌&&◌, ◌||◌, List, [], ◌∷◌, Some, None, refl, ap₂, eq-eqb}
-use Rattle.std.proofs.lemmas.Bool.{and_parts, and_from, or_parts, eqb-true, true≢false, not_from_false}
+use Rattle.std.proofs.Common.{◌≡◌, Bool, true, false, cond, not, eqb, ◌&&◌, ◌||◌, List, [], ◌∷◌, Some, None, refl}
+use Rattle.std.proofs.lemmas.Bool.{or_parts, true≢false, not_from_false}
 use Rattle.std.specs.Bool.{beq}
 use Rattle.sat_lits.specs.InLits.{same_lit}
 use Rattle.sat_lits.specs.declared.literal.InLit.{InLit}

@@ -14,6 +14,6 @@ use Rattle.propagate.specs.Watched.{open_but}
 -- what each answer says of the trail before and after it
 abbrev pub VisitsRight : List Held → ClauseId → InLit → List Step → List Step → Visit → Type 0
 VisitsRight held id other old new Kept = true_in new other ≡ true
-VisitsRight held id other old new (Moved l) = (new ≡ old) × (names held id (λ lits. open_but old other lits l) ≡ true)
+VisitsRight held id other old new (Moved l at) = (new ≡ old) × (names held id (λ lits. open_but old other lits l) ≡ true)
 VisitsRight held id other old new Lost = (new ≡ old) × (is_live held id.0 ≡ false)
 VisitsRight held id other old new AllFalse = (new ≡ old) × (names held id (false_clause old) ≡ true)

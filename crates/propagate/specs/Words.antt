@@ -15,6 +15,7 @@ pub record HasPlace (table : Table) : Type 0 where
   pub next : vec_len table.next + 2 ≤ vec_capacity table.next
   pub watched : vec_len table.watched + 2 ≤ vec_capacity table.watched
   pub whole : vec_len table.whole < vec_capacity table.whole
+  pub resume : vec_len table.resume < vec_capacity table.resume
 
 -- the words are the same
 pub record IsSame (old new : Table) : Type 0 where

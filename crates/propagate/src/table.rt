@@ -19,6 +19,9 @@ use sat_lits::{ClauseId, InLit, Inner, NoMemory};
 use std::alloc::Global;
 use trail::Trail;
 
+/// A search in a clause that has no more literals begins at its first one.
+const FEW_LITERALS: usize = 4;
+
 /// What stands where no literal is watched.
 const NO_LIT: InLit = InLit {
     var: Inner(0),
@@ -40,6 +43,9 @@ pub struct Table {
     pub watched: Vec<InLit>,
     /// For each clause whether it is looked at whole.
     pub whole: Vec<bool>,
+    /// For each clause the place at which the last search for a literal to watch ended, where that
+    /// is past the first few. Which place it is makes no difference to what is found.
+    pub resume: Vec<u32>,
 }
 
 /// What a visit of a clause came to, one of whose watched literals is false.
@@ -47,8 +53,8 @@ pub struct Table {
 enum Visit {
     /// The other watched literal is true now.
     Kept,
-    /// This literal of the clause is not false, and not the other watched one.
-    Moved(InLit),
+    /// This literal of the clause, at this place of it, is not false, and not the other watched one.
+    Moved(InLit, usize),
     /// The clause is not live.
     Lost,
     /// All its literals are false.
@@ -108,6 +114,7 @@ impl Table {
             next: Vec::new(alloc),
             watched: Vec::new(alloc),
             whole: Vec::new(alloc),
+            resume: Vec::new(alloc),
         }
     }
 
@@ -124,11 +131,14 @@ impl Table {
         watched.resize(2 * clauses, NO_LIT)?;
         let mut whole = Vec::new(alloc);
         whole.resize(clauses, true)?;
+        let mut resume = Vec::new(alloc);
+        resume.resize(clauses, 0)?;
         Ok(Table {
             heads,
             next,
             watched,
             whole,
+            resume,
         })
     }
 
@@ -145,6 +155,7 @@ impl Table {
         self.watched.push_reserved(NO_LIT);
         self.watched.push_reserved(NO_LIT);
         self.whole.push_reserved(true);
+        self.resume.push_reserved(0);
     }
 
     /// Looks at the clauses that watch a literal, which is false. Each gives the literal up for
@@ -172,14 +183,14 @@ impl Table {
         'walk: while entry > 0 {
             let place = entry - 1;
             let turn = self.turn_at(place);
-            match meet(store, trail, taken, place, turn.other) {
+            match meet(store, trail, taken, &self.resume, place, turn.other) {
                 Visit::Kept => before = entry,
                 Visit::Lost => {
                     missed = true;
                     before = entry;
                 }
                 Visit::AllFalse => return Walk::Conflict(id_at(taken, place)),
-                Visit::Moved(found) => self.shift(key, before, place, found),
+                Visit::Moved(found, at) => self.shift(key, before, place, found, at),
             }
             entry = turn.after;
         }
@@ -334,9 +345,21 @@ impl Table {
         }
     }
 
+    /// Remembers where the search in the clause of an entry ended, where that is past the first few
+    /// literals.
+    fn resume_at(&mut self, place: usize, at: usize)
+        ensures { self.new ≡ record self.old { resume = self.new.resume } }
+    {
+        if at >= FEW_LITERALS {
+            if let Some(word) = self.resume.get_mut(place / 2) {
+                *word = u32::try_from(at).unwrap_or(0);
+            }
+        }
+    }
+
     /// Takes an entry out of a chain, where it comes after another one, and puts it in front of the
-    /// chain of another literal.
-    fn shift(&mut self, key: usize, before: usize, place: usize, lit: InLit)
+    /// chain of another literal, which stands at a place of the clause.
+    fn shift(&mut self, key: usize, before: usize, place: usize, lit: InLit, at: usize)
         requires key { key < length self.old.heads.items }
         requires before { before ≤ length self.old.next.items }
         requires place { place < length self.old.next.items }
@@ -355,6 +378,7 @@ impl Table {
         } else {
             self.next[before - 1] = after;
         }
+        self.resume_at(place, at);
         self.put(place, lit);
     }
 
@@ -393,6 +417,7 @@ pub fn reserve_all(
     table.next.reserve(2)?;
     table.watched.reserve(2)?;
     table.whole.reserve(1)?;
+    table.resume.reserve(1)?;
     fresh.reserve(1)?;
     Ok(())
 }
@@ -464,6 +489,7 @@ fn meet(
     store: &ClauseStore,
     trail: &mut Trail,
     taken: &[Taken],
+    resume: &[u32],
     place: usize,
     other: InLit,
 ) -> Visit
@@ -477,12 +503,19 @@ fn meet(
     if trail.value(other) == Some(true) {
         return Visit::Kept;
     }
-    settle(store, trail, id_at(taken, place), other)
+    settle(store, trail, id_at(taken, place), resume, place, other)
 }
 
-/// Looks at a clause one of whose watched literals is false, where this is the other one, and
-/// assigns it where all others are false.
-fn settle(store: &ClauseStore, trail: &mut Trail, id: ClauseId, other: InLit) -> Visit
+/// Looks at the clause of an entry, one of whose watched literals is false, where this is the other
+/// one, and assigns it where all others are false.
+fn settle(
+    store: &ClauseStore,
+    trail: &mut Trail,
+    id: ClauseId,
+    resume: &[u32],
+    place: usize,
+    other: InLit,
+) -> Visit
     requires within { is_live store.now.held id.0 ≡ true → names store.now.held id (λ lits. list_any (same_lit other) lits) ≡ true }
     requires reserved { IsTrue (clauses_below trail.old.reserved store.now.held) }
     ensures right { VisitsRight store.now.held id other trail.old.steps trail.new.steps result }
@@ -498,8 +531,9 @@ fn settle(store: &ClauseStore, trail: &mut Trail, id: ClauseId, other: InLit) ->
     if !store.is_live(id) {
         return Visit::Lost;
     }
-    if let Some(lit) = find_open(trail, store.lits(id), other) {
-        return Visit::Moved(lit);
+    let lits = store.lits(id);
+    if let Some((lit, at)) = find_open_from(trail, lits, other, start_in(lits, resume, place)) {
+        return Visit::Moved(lit, at);
     }
     match value {
         Some(_) => Visit::AllFalse,
@@ -518,16 +552,50 @@ fn id_at(taken: &[Taken], place: usize) -> ClauseId
     taken[place / 2].id()
 }
 
-/// The first literal that is not false and not a given one.
-fn find_open(trail: &Trail, lits: &[InLit], other: InLit) -> Option<InLit>
-    requires { shaped trail.now.steps ≡ true }
-    ensures some { IfSome result (λ lit. IsTrue (open_but trail.now.steps other lits.now lit)) }
+/// The place at which the search in the clause of an entry begins: in a long clause the one at
+/// which the last search ended (Gent, 2013).
+fn start_in(lits: &[InLit], resume: &[u32], place: usize) -> usize
+    ensures { result ≤ length lits.now }
+{
+    if lits.len() <= FEW_LITERALS {
+        return 0;
+    }
+    match resume.get(place / 2) {
+        Some(start) => lits.len().min(*start as usize),
+        None => 0,
+    }
+}
+
+/// The first literal that is not false and not a given one, from a place on or else before it, and
+/// its place.
+fn find_open_from(
+    trail: &Trail,
+    lits: &[InLit],
+    other: InLit,
+    start: usize,
+) -> Option<(InLit, usize)>
+    requires sound { shaped trail.now.steps ≡ true }
+    requires start { start ≤ length lits.now }
+    ensures some { IfSome result (λ found. IsTrue (open_but trail.now.steps other lits.now found.0)) }
     ensures none { IfNone result (list_all (λ m. same_lit other m || false_in trail.now.steps m) lits.now ≡ true) }
 {
-    for lit in lits {
+    if let Some((lit, at)) = find_open(trail, &lits[start..], other) {
+        return Some((lit, start + at));
+    }
+    find_open(trail, &lits[..start], other)
+}
+
+/// The first literal that is not false and not a given one, and its place.
+fn find_open(trail: &Trail, lits: &[InLit], other: InLit) -> Option<(InLit, usize)>
+    requires { shaped trail.now.steps ≡ true }
+    ensures some { IfSome result (λ found. IsTrue (open_but trail.now.steps other lits.now found.0)) }
+    ensures place { IfSome result (λ found. found.1 < length lits.now) }
+    ensures none { IfNone result (list_all (λ m. same_lit other m || false_in trail.now.steps m) lits.now ≡ true) }
+{
+    for (at, lit) in lits.iter().enumerate() {
         if !is_false(trail, *lit) {
             if !is_same(other, *lit) {
-                return Some(*lit);
+                return Some((*lit, at));
             }
         }
     }
@@ -550,7 +618,7 @@ fn choose(store: &ClauseStore, trail: &mut Trail, id: ClauseId) -> Choice
     let Some(one) = first_open(trail, lits) else {
         return Choice::NoneOpen;
     };
-    if let Some(two) = find_open(trail, lits, one) {
+    if let Some((two, _)) = find_open(trail, lits, one) {
         return Choice::Pair(one, two);
     }
     hold(store, trail, id, one);

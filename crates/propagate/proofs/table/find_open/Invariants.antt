@@ -4,5 +4,5 @@ use Rattle.sat_lits.specs.InLits.{same_lit}
 use Rattle.trail.specs.Trail.{false_in}
 use Rattle.propagate.proofs.table.find_open.Given as goal
 
-abbrev pub invariant-loop-lit : goal.invariant-loop-lit
-invariant-loop-lit l = list_all (λ m. same_lit l.other m || false_in l.trail.steps m) (take l.lit-index l.lits) ≡ true
+abbrev pub invariant-loop-at : goal.invariant-loop-at
+invariant-loop-at l = list_all (λ m. same_lit l.other m || false_in l.trail.steps m) (take l.at l.lits) ≡ true
