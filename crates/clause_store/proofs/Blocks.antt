@@ -1,5 +1,5 @@
 -- Headers and their literals among the words of a store.
-use Rattle.std.proofs.Common.{◌≡◌, ℕ, zero, suc, ◌+◌, ◌-◌, ◌%◌, ◌<◌, ◌≤◌, ◌==◌, Bool, true, false, not, ltb, ◌&&◌, List, [], ◌∷◌, ◌++◌, length, get_or, set, take, drop, filter, Option, Some, None, option_map, option_to_list, nat_le, refl, sym, ap, ap₂, ◌∙◌, arith, cond, subst, length-set, length-drop, ltb-true, eq-eqb, ne_eqb, le-leb, ◌⊎◌, inl, inr}
+use Rattle.std.proofs.Common.{◌≡◌, ℕ, zero, suc, ◌+◌, ◌-◌, ◌%◌, ◌<◌, ◌≤◌, ◌^◌, ◌==◌, Bool, true, false, not, ltb, ◌&&◌, List, [], ◌∷◌, ◌++◌, length, get_or, set, take, drop, filter, Option, Some, None, option_map, option_to_list, nat_le, refl, sym, ap, ap₂, ◌∙◌, arith, cond, subst, length-set, length-drop, ltb-true, eq-eqb, ne_eqb, le-leb, ◌⊎◌, inl, inr}
 use Rattle.std.proofs.Math.Seq.{take-length}
 use Rattle.std.proofs.lemmas.Bool.{and_from, and_parts, false≢true, true≢false, cases_lt, lt-leb}
 use Rattle.std.proofs.lemmas.List.{take-append-le, take-set-le}
@@ -174,10 +174,10 @@ abbrev pub stored : List InLit → Store
 stored words = record { held = held_in words; given = length words }
 
 -- what the words of a store keep
-pub stored_kept : (words : List InLit) (s : Store) → stored words ≡ s → list_all (λ h. is_distinct h.lits) (held_in words) ≡ true → IsKept s
-stored_kept words s e d =
+pub stored_kept : (words : List InLit) (s : Store) → stored words ≡ s → length words ≤ 2 ^ 32 → list_all (λ h. is_distinct h.lits) (held_in words) ≡ true → IsKept s
+stored_kept words s e f d =
     subst (λ (z : Store). IsKept z) e
-    (record { below = ids_below 0 (length words) (places_of words) (omega (arith, length-places_of words)); rises = rising-places 0 (places_of words); distinct = d })
+    (record { below = ids_below 0 (length words) (places_of words) (omega (arith, length-places_of words)); few = f; rises = rising-places 0 (places_of words); distinct = d })
 
 -- what is stored, seen in a store
 pub stored_live : (words : List InLit) (s : Store) (id : ℕ) → stored words ≡ s → is_live s.held id ≡ true → is_live (held_in words) id ≡ true

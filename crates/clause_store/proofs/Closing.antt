@@ -93,6 +93,15 @@ contents_closed n m (w ∷ words) (suc left) stays b = go stays (contents_closed
         ap (λ z. contents (held_from n (places_of z))) (closed_goes false w words (stays_plain false w b.0))
         ∙ (j ∙ sym (none (is_header w) (not w.negative) m words b.0))
 
+-- closing up makes no more words
+pub closed_short : (words : List InLit) (stays : Bool) → length (closed_up stays words) ≤ length words
+closed_short [] stays = omega arith
+closed_short (w ∷ words) stays = go (stays_after stays w) (closed_short words true) (closed_short words false)
+  where
+    go : (b : Bool) → length (closed_up true words) ≤ length words → length (closed_up false words) ≤ length words → length (cond b (w ∷ closed_up true words) (closed_up false words)) ≤ suc (length words)
+    go true i j = omega arith
+    go false i j = omega arith
+
 -- how many words the clauses take
 pub length-closed : (n : ℕ) (words : List InLit) (left : ℕ) (stays : Bool) → AreBlocks words left → length (closed_up stays words) ≡ cond stays left 0 + sum_by (λ (h : Held). length h.lits + 1) (held_from n (places_of words))
 length-closed n [] left true b = rw b refl

@@ -1,5 +1,5 @@
 -- What contracts see of a clause store.
-use Rattle.std.specs.Prelude.{◌≡◌, ℕ, ◌==◌, nat_lt, Bool, true, if◌then◌else◌, not, ◌&&◌, List, [], ◌∷◌, map, filter, find, Option, Some, None, is_some}
+use Rattle.std.specs.Prelude.{◌≡◌, ℕ, ◌≤◌, ◌^◌, ◌==◌, nat_lt, Bool, true, if◌then◌else◌, not, ◌&&◌, List, [], ◌∷◌, map, filter, find, Option, Some, None, is_some}
 use Rattle.std.specs.List.{list_all}
 use Rattle.sat_lits.specs.InLits.{is_distinct}
 use Rattle.sat_lits.specs.declared.literal.InLit.{InLit}
@@ -55,8 +55,9 @@ abbrev pub rising : List Held → Bool
 rising [] = true
 rising (clause ∷ rest) = list_all (λ later. nat_lt clause.id later.id) rest && rising rest
 
--- what every store keeps: ids were given, and rise in order of addition, and no literal stands twice in a clause
+-- what every store keeps: ids were given, those that were given fit four bytes, ids rise in order of addition, and no literal stands twice in a clause
 pub record IsKept (store : Store) : Type 0 where
   pub below : list_all (λ clause. nat_lt clause.id store.given) store.held ≡ true
+  pub few : store.given ≤ 2 ^ 32
   pub rises : rising store.held ≡ true
   pub distinct : list_all (λ clause. is_distinct clause.lits) store.held ≡ true

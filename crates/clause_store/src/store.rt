@@ -14,9 +14,13 @@ const FIRST_HEADER: u32 = 2147483648;
 /// The most literals that a header can tell.
 const MOST_LITERALS: usize = 1073741823;
 
+/// The most words of a store, so that an id is below this number and fits four bytes.
+const MOST_WORDS: usize = 4294967296;
+
 /// Clauses in order of addition, hard and learned, each with an id.
 ///
-/// No id comes twice before the next `compact`, even where its clause was dropped.
+/// No id comes twice before the next `compact`, even where its clause was dropped. Each id is below
+/// 4294967296.
 #[derive(Debug, Drop)]
 pub struct ClauseStore {
     // For each clause a header and then its literals. The id of a clause is the place of its
@@ -50,8 +54,9 @@ impl ClauseStore {
 
     /// Adds a clause, in which no literal stands twice, as the last one, and tells its id, which is
     /// above all ids that were given. The only error is want of memory, as which a clause of more
-    /// than 1073741823 literals counts too, and one with a variable from 2147483648 on. Nothing
-    /// changes then.
+    /// than 1073741823 literals counts too, one with a variable from 2147483648 on, and one with
+    /// which the store would be longer than 4294967296 words. A clause takes a word and one for each
+    /// literal, also where it was dropped, until `compact`. Nothing changes then.
     pub fn add(&mut self, lits: &[InLit], learned: bool) -> Result<ClauseId, NoMemory>
         requires { IsTrue (is_distinct lits.now) }
         ensures held { IfOk result (λ id. self.new.held ≡ self.old.held ++ held_as id.0 learned lits.now ∷ []) }
@@ -63,6 +68,9 @@ impl ClauseStore {
     {
         let place = self.words.len();
         if !can_stand(lits) {
+            return Err(NoMemory);
+        }
+        if lits.len() >= MOST_WORDS - place {
             return Err(NoMemory);
         }
         self.words.reserve(lits.len() + 1)?;

@@ -1,5 +1,5 @@
 -- Lists of ids by variable while the clauses of a store are walked.
-use Rattle.std.proofs.Common.{◌≡◌, ℕ, zero, suc, ◌<◌, ◌≤◌, ◌==◌, Bool, true, false, cond, ltb, List, [], ◌∷◌, ◌++◌, Option, Some, None, refl, sym, ap, ap₂, subst, ◌∙◌, arith, length, map, filter, option_map, option_to_list, vec_len, vec_capacity, eqb-true, eq-eqb, ne_eqb, ltb-true, lt-ltb}
+use Rattle.std.proofs.Common.{◌≡◌, ℕ, zero, suc, ◌<◌, ◌≤◌, ◌^◌, ◌==◌, Bool, true, false, cond, ltb, List, [], ◌∷◌, ◌++◌, Option, Some, None, refl, sym, ap, ap₂, subst, ◌∙◌, arith, length, map, filter, option_map, option_to_list, vec_len, vec_capacity, eqb-true, eq-eqb, ne_eqb, ltb-true, lt-ltb}
 use Rattle.std.proofs.lemmas.Bool.{and_parts, and_from, or_left, or_right}
 use Rattle.std.proofs.lemmas.List.{map-append, length-map}
 use Rattle.std.proofs.lemmas.List.Elements.{filter-append}
@@ -7,21 +7,22 @@ use Rattle.std.specs.List.{list_all, list_any, cons_option}
 use Rattle.std.specs.Option.{is_some}
 use Rattle.std.specs.Global.{Vec}
 use Rattle.sat_lits.specs.declared.literal.ClauseId.{ClauseId}
+use Rattle.indexed_store.specs.declared.short_id.ShortId.{ShortId}
 use Rattle.sat_lits.specs.declared.literal.InLit.{InLit}
 use Rattle.clause_store.specs.Store.{Store, Held, IsKept, clause_at, is_live, before, contents, rising}
 use Rattle.indexed_store.specs.Lists.{ids_of, places_of, room_of, has_room, is_in, added, are_below}
 use Rattle.indexed_store.specs.Occurrences.{clauses_at, holds, occurrences}
 
 -- the ids of clauses
-abbrev pub ids_at : List Held → List ClauseId
+abbrev pub ids_at : List Held → List ShortId
 ids_at held = map (λ h. record { 0 = h.id }) held
 
 -- the lists have the ids of the clauses that were walked, and the places that they had
-pub record Filling (held : List Held) (at : Option ClauseId) (olds lists : List (Vec ClauseId)) : Type 0 where
+pub record Filling (held : List Held) (at : Option ClauseId) (olds lists : List (Vec ShortId)) : Type 0 where
   pub ids : (v : ℕ) → ids_of lists v ≡ ids_at (occurrences v (before held at))
   pub places : (v : ℕ) → places_of lists v ≡ places_of olds v
 
-pub fill_none : (held : List Held) (at : Option ClauseId) (lists : List (Vec ClauseId)) → before held at ≡ [] → ((v : ℕ) → ids_of lists v ≡ []) → Filling held at lists lists
+pub fill_none : (held : List Held) (at : Option ClauseId) (lists : List (Vec ShortId)) → before held at ≡ [] → ((v : ℕ) → ids_of lists v ≡ []) → Filling held at lists lists
 fill_none held at lists b e = record { ids = λ v. e v ∙ ap (λ hs. ids_at (occurrences v hs)) (sym b); places = λ v. refl }
 
 -- the clause of a live id, by its literals
@@ -51,6 +52,17 @@ live_above n i (h ∷ held) a l =
     go true q x r m = let y : h.id ≡ i = eqb-true _ _ q in omega arith
     go false q x r m = r m
 
+-- and below what all ids are below
+live_under : (n i : ℕ) (held : List Held) → list_all (λ h. ltb h.id n) held ≡ true → is_live held i ≡ true → i < n
+live_under n i [] a l = cc
+live_under n i (h ∷ held) a l =
+    let p : (ltb h.id n ≡ true) × (list_all (λ k. ltb k.id n) held ≡ true) = and_parts _ _ a in
+    go (h.id == i) refl (ltb-true _ _ p.0) (live_under n i held p.1) l
+  where
+    go : (b : Bool) → (h.id == i) ≡ b → h.id < n → (is_live held i ≡ true → i < n) → is_some (cond b (Some h) (clause_at held i)) ≡ true → i < n
+    go true q x r m = let y : h.id ≡ i = eqb-true _ _ q in omega arith
+    go false q x r m = r m
+
 -- the clauses before that of a live id have lower ids
 before_below : (held : List Held) (id : ClauseId) → rising held ≡ true → is_live held id.0 ≡ true → list_all (λ h. ltb h.id id.0) (before held (Some id)) ≡ true
 before_below [] id r l = refl
@@ -73,11 +85,15 @@ below_ids n p (h ∷ held) e =
     go true l r = and_from _ _ l r
     go false l r = r
 
+-- a live id fits four bytes
+pub live_small : (s : Store) (i : ℕ) → IsKept s → is_live s.held i ≡ true → i < 2 ^ 32
+live_small s i k l = let a : i < s.given = live_under s.given i s.held k.below l in omega (arith, k.few)
+
 -- the next id is above those that are there
-pub fill_new : (s : Store) (at : Option ClauseId) (id : ClauseId) (olds lists : List (Vec ClauseId)) → Filling s.held at olds lists → at ≡ Some id → IsKept s → is_live s.held id.0 ≡ true → (v : ℕ) → are_below id.0 (ids_of lists v) ≡ true
-fill_new s at id olds lists f e k l v =
-    ap (are_below id.0) (f.ids v ∙ ap (λ o. ids_at (occurrences v (before s.held o))) e)
-    ∙ below_ids id.0 (holds v) (before s.held (Some id)) (before_below s.held id k.rises l)
+pub fill_new : (s : Store) (at : Option ClauseId) (id : ClauseId) (short : ShortId) (olds lists : List (Vec ShortId)) → Filling s.held at olds lists → at ≡ Some id → IsKept s → is_live s.held id.0 ≡ true → short.0 ≡ id.0 → (v : ℕ) → are_below short.0 (ids_of lists v) ≡ true
+fill_new s at id short olds lists f e k l q v =
+    rw q (ap (are_below id.0) (f.ids v ∙ ap (λ o. ids_at (occurrences v (before s.held o))) e)
+    ∙ below_ids id.0 (holds v) (before s.held (Some id)) (before_below s.held id k.rises l))
 
 -- the clauses before that of an id are fewer, where it passes the test too
 fewer : (p : Held → Bool) (held : List Held) (id : ClauseId) (h : Held) → clause_at held id.0 ≡ Some h → p h ≡ true → length (filter p (before held (Some id))) < length (filter p held)
@@ -99,7 +115,7 @@ each_in p [] f = refl
 each_in p (l ∷ lits) f = and_from _ _ (f l (or_left _ _ (eq-eqb l.var.0 l.var.0 refl))) (each_in p lits (λ k e. f k (or_right _ _ e)))
 
 -- a list that has fewer ids than places has room
-room_left : (lists : List (Vec ClauseId)) (v n : ℕ) → length (ids_of lists v) < n → n ≤ places_of lists v → 0 < room_of lists v
+room_left : (lists : List (Vec ShortId)) (v n : ℕ) → length (ids_of lists v) < n → n ≤ places_of lists v → 0 < room_of lists v
 room_left [] v n l m = omega arith
 room_left (w ∷ lists) zero n l m = let e : vec_len w ≡ length w.items = w.ok.0 in omega arith
 room_left (w ∷ lists) (suc v) n l m = room_left lists v n l m
@@ -111,7 +127,7 @@ one_more held id next h v e s =
     ap (occurrences v) (s ∙ ap (λ o. before held (Some id) ++ option_to_list o) e) ∙ filter-append (holds v) (before held (Some id)) (h ∷ [])
 
 -- each list of the next clause's variables has room
-pub fill_room : (held : List Held) (at : Option ClauseId) (id : ClauseId) (lits : List InLit) (olds lists : List (Vec ClauseId)) → Filling held at olds lists → at ≡ Some id
+pub fill_room : (held : List Held) (at : Option ClauseId) (id : ClauseId) (lits : List InLit) (olds lists : List (Vec ShortId)) → Filling held at olds lists → at ≡ Some id
     → option_map (λ h. h.lits) (clause_at held id.0) ≡ Some lits → ((v : ℕ) → length (occurrences v held) ≤ places_of olds v) → list_all (has_room lists) lits ≡ true
 fill_room held at id lits olds lists f e t p = each_in (has_room lists) lits (λ l m. lt-ltb 0 (room_of lists l.var.0) (here l.var.0 m))
   where
@@ -123,28 +139,28 @@ fill_room held at id lits olds lists f e t p = each_in (has_room lists) lits (λ
         room_left lists v (length (occurrences v held)) (omega arith) (subst (λ n. length (occurrences v held) ≤ n) (sym (f.places v)) (p v))
 
 -- one clause more
-pub fill_more : (held : List Held) (at : Option ClauseId) (id : ClauseId) (next : Option ClauseId) (lits : List InLit) (olds lists news : List (Vec ClauseId)) → Filling held at olds lists → at ≡ Some id
+pub fill_more : (held : List Held) (at : Option ClauseId) (id : ClauseId) (short : ShortId) (next : Option ClauseId) (lits : List InLit) (olds lists news : List (Vec ShortId)) → Filling held at olds lists → at ≡ Some id
     → option_map (λ h. h.lits) (clause_at held id.0) ≡ Some lits → before held next ≡ before held (Some id) ++ option_to_list (clause_at held id.0)
-    → ((v : ℕ) → ids_of news v ≡ ids_of lists v ++ added v lits id) → ((v : ℕ) → places_of news v ≡ places_of lists v) → Filling held next olds news
-fill_more held at id next lits olds lists news f e t n i p =
+    → short.0 ≡ id.0 → ((v : ℕ) → ids_of news v ≡ ids_of lists v ++ added v lits short) → ((v : ℕ) → places_of news v ≡ places_of lists v) → Filling held next olds news
+fill_more held at id short next lits olds lists news f e t n w i p =
     let (h, (g, q)) = found held id.0 lits t in
     record {
       ids = λ v.
           i v
-          ∙ (ap₂ {C = List ClauseId} ◌++◌ (f.ids v ∙ ap (λ o. ids_at (occurrences v (before held o))) e) (here h v (found_id held id.0 h g) q)
-          ∙ (sym (map-append (λ (k : Held). let c : ClauseId = record { 0 = k.id } in c) (occurrences v (before held (Some id))) (cond (holds v h) (h ∷ []) [])) ∙ ap ids_at (sym (one_more held id next h v g n))));
+          ∙ (ap₂ {C = List ShortId} ◌++◌ (f.ids v ∙ ap (λ o. ids_at (occurrences v (before held o))) e) (here h v (found_id held id.0 h g ∙ sym w) q)
+          ∙ (sym (map-append (λ (k : Held). let c : ShortId = record { 0 = k.id } in c) (occurrences v (before held (Some id))) (cond (holds v h) (h ∷ []) [])) ∙ ap ids_at (sym (one_more held id next h v g n))));
       places = λ v. p v ∙ f.places v;
     }
   where
-    here : (h : Held) (v : ℕ) → h.id ≡ id.0 → h.lits ≡ lits → added v lits id ≡ ids_at (cond (holds v h) (h ∷ []) [])
-    here h v r q = ap (λ (z : List InLit). cond (list_any (is_in v) z) (id ∷ []) []) (sym q) ∙ go (holds v h)
+    here : (h : Held) (v : ℕ) → h.id ≡ short.0 → h.lits ≡ lits → added v lits short ≡ ids_at (cond (holds v h) (h ∷ []) [])
+    here h v r q = ap (λ (z : List InLit). cond (list_any (is_in v) z) (short ∷ []) []) (sym q) ∙ go (holds v h)
       where
-        go : (b : Bool) → cond b (id ∷ []) [] ≡ ids_at (cond b (h ∷ []) [])
-        go true = ap (λ n. let c : ClauseId = record { 0 = n } in c ∷ []) (sym r)
+        go : (b : Bool) → cond b (short ∷ []) [] ≡ ids_at (cond b (h ∷ []) [])
+        go true = ap (λ n. let c : ShortId = record { 0 = n } in c ∷ []) (sym r)
         go false = refl
 
 -- ids above that of the first clause name the same clauses among the others
-skip : (h : Held) (held : List Held) (ids : List ClauseId) → list_all (λ id. ltb h.id id.0) ids ≡ true → clauses_at (h ∷ held) ids ≡ clauses_at held ids
+skip : (h : Held) (held : List Held) (ids : List ShortId) → list_all (λ id. ltb h.id id.0) ids ≡ true → clauses_at (h ∷ held) ids ≡ clauses_at held ids
 skip h held [] e = refl
 skip h held (x ∷ ids) e =
     let a : (ltb h.id x.0 ≡ true) × (list_all (λ id. ltb h.id id.0) ids ≡ true) = and_parts _ _ e in
@@ -172,14 +188,14 @@ named p (h ∷ held) r =
     go false a = a
 
 -- all clauses were walked
-pub fill_known : (s : Store) (lists : List (Vec ClauseId)) (v : ℕ) → IsKept s → ids_of lists v ≡ ids_at (occurrences v s.held) → are_below s.given (ids_of lists v) ≡ true
+pub fill_known : (s : Store) (lists : List (Vec ShortId)) (v : ℕ) → IsKept s → ids_of lists v ≡ ids_at (occurrences v s.held) → are_below s.given (ids_of lists v) ≡ true
 fill_known s lists v k e = ap (are_below s.given) e ∙ below_ids s.given (holds v) s.held k.below
 
-pub fill_found : (s : Store) (lists : List (Vec ClauseId)) (v : ℕ) → IsKept s → ids_of lists v ≡ ids_at (occurrences v s.held) → clauses_at s.held (ids_of lists v) ≡ occurrences v s.held
+pub fill_found : (s : Store) (lists : List (Vec ShortId)) (v : ℕ) → IsKept s → ids_of lists v ≡ ids_at (occurrences v s.held) → clauses_at s.held (ids_of lists v) ≡ occurrences v s.held
 fill_found s lists v k e = ap (clauses_at s.held) e ∙ named (holds v) s.held k.rises
 
 -- a list has a place for each clause that it names
-named_fit : (held : List Held) (ids : List ClauseId) → length (clauses_at held ids) ≤ length ids
+named_fit : (held : List Held) (ids : List ShortId) → length (clauses_at held ids) ≤ length ids
 named_fit held [] = omega arith
 named_fit held (x ∷ ids) = go (clause_at held x.0) (named_fit held ids)
   where
@@ -187,7 +203,7 @@ named_fit held (x ∷ ids) = go (clause_at held x.0) (named_fit held ids)
     go None l = omega arith
     go (Some h) l = omega arith
 
-ids_fit : (lists : List (Vec ClauseId)) (v : ℕ) → length (ids_of lists v) ≤ places_of lists v
+ids_fit : (lists : List (Vec ShortId)) (v : ℕ) → length (ids_of lists v) ≤ places_of lists v
 ids_fit [] v = omega arith
 ids_fit (w ∷ lists) zero = let e : vec_len w ≡ length w.items = w.ok.0 in let f : vec_len w ≤ vec_capacity w = w.ok.1 in omega arith
 ids_fit (w ∷ lists) (suc v) = ids_fit lists v
@@ -202,7 +218,7 @@ count_of v (h ∷ held) = go (holds v h) (count_of v held)
     go false e = e
 
 -- where clauses are the same, whatever their ids, the lists have places for the new ids
-pub places_enough : (held news : List Held) (lists olds : List (Vec ClauseId)) (v : ℕ) → clauses_at held (ids_of olds v) ≡ occurrences v held → contents news ≡ contents held → places_of lists v ≡ places_of olds v
+pub places_enough : (held news : List Held) (lists olds : List (Vec ShortId)) (v : ℕ) → clauses_at held (ids_of olds v) ≡ occurrences v held → contents news ≡ contents held → places_of lists v ≡ places_of olds v
     → length (occurrences v news) ≤ places_of lists v
 places_enough held news lists olds v f c p =
     let a : length (occurrences v news) ≡ length (occurrences v held) = count_of v news ∙ (ap (λ (z : List (Bool × List InLit)). length (filter (λ c. list_any (is_in v) c.1) z)) c ∙ sym (count_of v held)) in

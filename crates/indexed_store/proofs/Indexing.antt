@@ -7,7 +7,7 @@ use Rattle.std.specs.List.{list_all, list_any, cons_option}
 use Rattle.std.specs.Option.{option_or, is_some}
 use Rattle.sat_lits.specs.InLits.{is_distinct}
 use Rattle.sat_lits.specs.ListLaws.{all_mono, all_push}
-use Rattle.sat_lits.specs.declared.literal.ClauseId.{ClauseId}
+use Rattle.indexed_store.specs.declared.short_id.ShortId.{ShortId}
 use Rattle.sat_lits.specs.declared.literal.InLit.{InLit}
 use Rattle.clause_store.specs.Store.{Store, Held, IsKept, held_as, clause_at, is_live, rising, without}
 use Rattle.indexed_store.specs.Lists.{added, are_below, is_in}
@@ -40,7 +40,7 @@ clause_at-without (h ∷ hs) i j = go (h.id == i) (h.id == j) refl refl (clause_
     go false false e f r = rw f r
 
 -- what a list names where a clause was dropped
-clauses_at-without : (hs : List Held) (i : ℕ) (ids : List ClauseId) → clauses_at (without i hs) ids ≡ without i (clauses_at hs ids)
+clauses_at-without : (hs : List Held) (i : ℕ) (ids : List ShortId) → clauses_at (without i hs) ids ≡ without i (clauses_at hs ids)
 clauses_at-without hs i [] = refl
 clauses_at-without hs i (x ∷ ids) = ap₂ (λ o z. cons_option o z) (clause_at-without hs i x.0) (clauses_at-without hs i ids) ∙ go (clause_at hs x.0)
   where
@@ -63,7 +63,7 @@ occurrences-without v i (h ∷ hs) = go (h.id == i) (holds v h) refl refl (occur
     go false false e f r = rw f r
 
 -- the lists still name the clauses of each variable
-pub found_without : (hs : List Held) (i v : ℕ) (ids : List ClauseId) → clauses_at hs ids ≡ occurrences v hs → clauses_at (without i hs) ids ≡ occurrences v (without i hs)
+pub found_without : (hs : List Held) (i v : ℕ) (ids : List ShortId) → clauses_at hs ids ≡ occurrences v hs → clauses_at (without i hs) ids ≡ occurrences v (without i hs)
 found_without hs i v ids e = clauses_at-without hs i ids ∙ (ap (without i) e ∙ sym (occurrences-without v i hs))
 
 -- what all clauses pass, those that are left pass
@@ -95,7 +95,7 @@ or_none None = refl
 or_none (Some h) = refl
 
 -- a list of old ids names the same clauses where one more was added
-clauses_at-more : (hs : List Held) (h : Held) (g : ℕ) (ids : List ClauseId) → are_below g ids ≡ true → g ≤ h.id → clauses_at (hs ++ h ∷ []) ids ≡ clauses_at hs ids
+clauses_at-more : (hs : List Held) (h : Held) (g : ℕ) (ids : List ShortId) → are_below g ids ≡ true → g ≤ h.id → clauses_at (hs ++ h ∷ []) ids ≡ clauses_at hs ids
 clauses_at-more hs h g [] e l = refl
 clauses_at-more hs h g (x ∷ ids) e l =
     let a : (ltb x.0 g ≡ true) × (are_below g ids ≡ true) = and_parts _ _ e in
@@ -104,17 +104,17 @@ clauses_at-more hs h g (x ∷ ids) e l =
     (clauses_at-more hs h g ids a.1 l)
 
 -- the new id names the new clause
-clauses_at-new : (hs : List Held) (h : Held) (g : ℕ) (id : ClauseId) → list_all (λ k. ltb k.id g) hs ≡ true → g ≤ id.0 → h.id ≡ id.0 → clauses_at (hs ++ h ∷ []) (id ∷ []) ≡ h ∷ []
+clauses_at-new : (hs : List Held) (h : Held) (g : ℕ) (id : ShortId) → list_all (λ k. ltb k.id g) hs ≡ true → g ≤ id.0 → h.id ≡ id.0 → clauses_at (hs ++ h ∷ []) (id ∷ []) ≡ h ∷ []
 clauses_at-new hs h g id e l i =
     ap (λ o. cons_option o [])
     (find-append (λ (k : Held). k.id == id.0) hs (h ∷ []) ∙ ap₂ (λ o b. option_or o (cond b (Some h) None)) (new_at hs g id.0 e l) (eq-eqb h.id id.0 i))
 
 -- the lists name the clauses of each variable where one more was added
-pub found_more : (hs news : List Held) (g v : ℕ) (id : ClauseId) (learned : Bool) (lits : List InLit) (olds ids : List ClauseId) → list_all (λ k. ltb k.id g) hs ≡ true → are_below g olds ≡ true → g ≤ id.0
+pub found_more : (hs news : List Held) (g v : ℕ) (id : ShortId) (learned : Bool) (lits : List InLit) (olds ids : List ShortId) → list_all (λ k. ltb k.id g) hs ≡ true → are_below g olds ≡ true → g ≤ id.0
     → news ≡ hs ++ held_as id.0 learned lits ∷ [] → ids ≡ olds ++ added v lits id → clauses_at hs olds ≡ occurrences v hs → clauses_at news ids ≡ occurrences v news
 found_more hs news g v id learned lits olds ids e o l n i f =
     ap₂ (λ z w. clauses_at z w) n i
-    ∙ (filter_map-append (λ (x : ClauseId). clause_at (hs ++ h ∷ []) x.0) olds (added v lits id)
+    ∙ (filter_map-append (λ (x : ShortId). clause_at (hs ++ h ∷ []) x.0) olds (added v lits id)
     ∙ (ap₂ {C = List Held} ◌++◌ (clauses_at-more hs h g olds o l ∙ f) (last (list_any (is_in v) lits))
     ∙ (sym (filter-append (holds v) hs (h ∷ [])) ∙ ap (occurrences v) (sym n))))
   where
@@ -134,22 +134,22 @@ held_below hs news g n h e l m q =
     ap (list_all (λ (k : Held). ltb k.id n)) q
     ∙ all_push (λ (k : Held). ltb k.id n) hs h (all_mono (λ (k : Held). ltb k.id g) (λ k. ltb k.id n) (λ k. le_mono k.id g n (omega arith)) hs e) (lt-ltb h.id n m)
 
-pub ids_below : (olds ids : List ClauseId) (g n v : ℕ) (id : ClauseId) (lits : List InLit) → are_below g olds ≡ true → g ≤ id.0 → id.0 < n → ids ≡ olds ++ added v lits id → are_below n ids ≡ true
+pub ids_below : (olds ids : List ShortId) (g n v : ℕ) (id : ShortId) (lits : List InLit) → are_below g olds ≡ true → g ≤ id.0 → id.0 < n → ids ≡ olds ++ added v lits id → are_below n ids ≡ true
 ids_below olds ids g n v id lits e l m q = ap (are_below n) q ∙ go (list_any (is_in v) lits)
   where
     more : are_below n olds ≡ true
-    more = all_mono (λ (k : ClauseId). ltb k.0 g) (λ k. ltb k.0 n) (λ k. le_mono k.0 g n (omega arith)) olds e
+    more = all_mono (λ (k : ShortId). ltb k.0 g) (λ k. ltb k.0 n) (λ k. le_mono k.0 g n (omega arith)) olds e
 
     go : (b : Bool) → are_below n (olds ++ cond b (id ∷ []) []) ≡ true
-    go true = all_push (λ (k : ClauseId). ltb k.0 n) olds id more (lt-ltb id.0 n m)
+    go true = all_push (λ (k : ShortId). ltb k.0 n) olds id more (lt-ltb id.0 n m)
     go false = ap (are_below n) (append-nil olds) ∙ more
 
 -- ids that are below a number are below one that is not less
-pub below_more : (g n : ℕ) (ids : List ClauseId) → g ≤ n → are_below g ids ≡ true → are_below n ids ≡ true
-below_more g n ids l e = all_mono (λ (k : ClauseId). ltb k.0 g) (λ k. ltb k.0 n) (λ k. le_mono k.0 g n l) ids e
+pub below_more : (g n : ℕ) (ids : List ShortId) → g ≤ n → are_below g ids ≡ true → are_below n ids ≡ true
+below_more g n ids l e = all_mono (λ (k : ShortId). ltb k.0 g) (λ k. ltb k.0 n) (λ k. le_mono k.0 g n l) ids e
 
 -- the ids that are not live name nothing
-pub clauses_at-live : (hs : List Held) (ids : List ClauseId) → clauses_at hs (filter (λ id. is_live hs id.0) ids) ≡ clauses_at hs ids
+pub clauses_at-live : (hs : List Held) (ids : List ShortId) → clauses_at hs (filter (λ id. is_live hs id.0) ids) ≡ clauses_at hs ids
 clauses_at-live hs [] = refl
 clauses_at-live hs (x ∷ ids) = go (clause_at hs x.0) refl (clauses_at-live hs ids)
   where
@@ -159,7 +159,7 @@ clauses_at-live hs (x ∷ ids) = go (clause_at hs x.0) refl (clauses_at-live hs 
     go (Some h) e r = ap₂ (λ o z. cons_option o z) e r
 
 -- what all ids pass, those that are left pass
-pub below_filter : (test : ClauseId → Bool) (g : ℕ) (ids : List ClauseId) → are_below g ids ≡ true → are_below g (filter test ids) ≡ true
+pub below_filter : (test : ShortId → Bool) (g : ℕ) (ids : List ShortId) → are_below g ids ≡ true → are_below g (filter test ids) ≡ true
 below_filter test g [] e = refl
 below_filter test g (x ∷ ids) e =
     let a : (ltb x.0 g ≡ true) × (are_below g ids ≡ true) = and_parts _ _ e in
@@ -184,6 +184,7 @@ pub kept_without : (s : Store) (i : ℕ) → IsKept s → IsKept (record s { hel
 kept_without s i k =
     record {
       below = below_without (λ (h : Held). ltb h.id s.given) i s.held k.below;
+      few = k.few;
       rises = rising-without i s.held k.rises;
       distinct = below_without (λ (h : Held). is_distinct h.lits) i s.held k.distinct;
     }

@@ -7,17 +7,17 @@ use Rattle.std.specs.List.{list_all, list_any}
 use Rattle.sat_lits.specs.ListLaws.{all_mono, all_push}
 use Rattle.sat_lits.specs.declared.literal.InLit.{InLit}
 use Rattle.std.specs.Global.{Vec}
-use Rattle.sat_lits.specs.declared.literal.ClauseId.{ClauseId}
+use Rattle.indexed_store.specs.declared.short_id.ShortId.{ShortId}
 use Rattle.indexed_store.specs.Lists.{ids_in, ids_of, places_in, places_of, room_in, room_of, has_room, ends_with, with_last, is_in, added, are_below}
 
 -- one empty list more
-pub ids_push : (lists : List (Vec ClauseId)) (w : Vec ClauseId) (v : ℕ) → w.items ≡ [] → ids_of (lists ++ w ∷ []) v ≡ ids_of lists v
+pub ids_push : (lists : List (Vec ShortId)) (w : Vec ShortId) (v : ℕ) → w.items ≡ [] → ids_of (lists ++ w ∷ []) v ≡ ids_of lists v
 ids_push [] w zero e = e
 ids_push [] w (suc v) e = refl
 ids_push (x ∷ lists) w zero e = refl
 ids_push (x ∷ lists) w (suc v) e = ids_push lists w v e
 
-pub room_push : (lists : List (Vec ClauseId)) (w : Vec ClauseId) (v : ℕ) → room_of lists v ≤ room_of (lists ++ w ∷ []) v
+pub room_push : (lists : List (Vec ShortId)) (w : Vec ShortId) (v : ℕ) → room_of lists v ≤ room_of (lists ++ w ∷ []) v
 room_push [] w zero = omega arith
 room_push [] w (suc v) = omega arith
 room_push (x ∷ lists) w zero = omega arith
@@ -44,19 +44,19 @@ at_read (y ∷ xs) zero x e l = ap Some (sym e)
 at_read (y ∷ xs) (suc i) x e l = at_read xs i x e (omega arith)
 
 -- a variable whose list has room has a list
-pub room_there : (lists : List (Vec ClauseId)) (v : ℕ) → 0 < room_of lists v → v < length lists
+pub room_there : (lists : List (Vec ShortId)) (v : ℕ) → 0 < room_of lists v → v < length lists
 room_there [] v l = absurd (omega arith)
 room_there (x ∷ lists) zero l = omega arith
 room_there (x ∷ lists) (suc v) l = let a : v < length lists = room_there lists v l in omega arith
 
 -- an id that was appended is the last one
-pub ends_push : (id : ClauseId) (xs : List ClauseId) → ends_with id (xs ++ id ∷ []) ≡ true
+pub ends_push : (id : ShortId) (xs : List ShortId) → ends_with id (xs ++ id ∷ []) ≡ true
 ends_push id [] = eq-eqb id.0 id.0 refl
 ends_push id (x ∷ []) = eq-eqb id.0 id.0 refl
 ends_push id (x ∷ y ∷ xs) = ends_push id (y ∷ xs)
 
 -- one that is above all others is not
-pub ends_below : (id : ClauseId) (xs : List ClauseId) → are_below id.0 xs ≡ true → ends_with id xs ≡ false
+pub ends_below : (id : ShortId) (xs : List ShortId) → are_below id.0 xs ≡ true → ends_with id xs ≡ false
 ends_below id [] e = refl
 ends_below id (x ∷ []) e = let a : (ltb x.0 id.0 ≡ true) × (true ≡ true) = and_parts _ _ e in ne_eqb x.0 id.0 (λ q. absurd (let l : x.0 < id.0 = ltb-true _ _ a.0 in omega arith))
 ends_below id (x ∷ y ∷ xs) e = let a : (ltb x.0 id.0 ≡ true) × (are_below id.0 (y ∷ xs) ≡ true) = and_parts _ _ e in ends_below id (y ∷ xs) a.1
@@ -68,7 +68,7 @@ all_at p (x ∷ xs) zero d e l = (and_parts (p x) (list_all p xs) e).0
 all_at p (x ∷ xs) (suc i) d e l = all_at p xs i d (and_parts (p x) (list_all p xs) e).1 (omega arith)
 
 -- a changed list that keeps its places leaves all lists theirs
-same_places : (lists : List (Vec ClauseId)) (i : ℕ) (list w : Vec ClauseId) → i < length lists → slice_get lists i ≡ Some list → vec_capacity w ≡ vec_capacity list → (v : ℕ) → places_of (set lists i w) v ≡ places_of lists v
+same_places : (lists : List (Vec ShortId)) (i : ℕ) (list w : Vec ShortId) → i < length lists → slice_get lists i ≡ Some list → vec_capacity w ≡ vec_capacity list → (v : ℕ) → places_of (set lists i w) v ≡ places_of lists v
 same_places lists i list w l g c v = go (v == i) refl
   where
     go : (b : Bool) → (v == i) ≡ b → places_of (set lists i w) v ≡ places_of lists v
@@ -76,7 +76,7 @@ same_places lists i list w l g c v = go (v == i) refl
     go false q = ap places_in (at_other lists i v w (eqb-false v i q))
 
 -- the lists after an id was appended to those of the variables of some literals
-pub record Pushing (olds lists : List (Vec ClauseId)) (lits : List InLit) (id : ClauseId) : Type 0 where
+pub record Pushing (olds lists : List (Vec ShortId)) (lits : List InLit) (id : ShortId) : Type 0 where
   pub ids : (v : ℕ) → ids_of lists v ≡ ids_of olds v ++ added v lits id
   pub room : (v : ℕ) → list_any (is_in v) lits ≡ false → room_of olds v ≤ room_of lists v
   pub places : (v : ℕ) → places_of lists v ≡ places_of olds v
@@ -90,7 +90,7 @@ any_more v lits l = list_any-append (is_in v) lits (l ∷ []) ∙ ap (λ b. list
     or_false false = refl
 
 -- the list has room, or the id is there
-pub push_ready : (olds lists : List (Vec ClauseId)) (lits : List InLit) (v : ℕ) (list : Vec ClauseId) (id : ClauseId) → Pushing olds lists lits id → 0 < room_of olds v → slice_get lists v ≡ Some list
+pub push_ready : (olds lists : List (Vec ShortId)) (lits : List InLit) (v : ℕ) (list : Vec ShortId) (id : ShortId) → Pushing olds lists lits id → 0 < room_of olds v → slice_get lists v ≡ Some list
     → ends_with id list.items ≡ false → vec_len list < vec_capacity list
 push_ready olds lists lits v list id h r g e = go (list_any (is_in v) lits) refl
   where
@@ -102,7 +102,7 @@ push_ready olds lists lits v list id h r g e = go (list_any (is_in v) lits) refl
         omega arith
 
 -- one literal more
-pub push_step : (olds lists : List (Vec ClauseId)) (lits : List InLit) (l : InLit) (list w : Vec ClauseId) (id : ClauseId) → Pushing olds lists lits id → ((v : ℕ) → are_below id.0 (ids_of olds v) ≡ true)
+pub push_step : (olds lists : List (Vec ShortId)) (lits : List InLit) (l : InLit) (list w : Vec ShortId) (id : ShortId) → Pushing olds lists lits id → ((v : ℕ) → are_below id.0 (ids_of olds v) ≡ true)
     → l.var.0 < length lists → slice_get lists l.var.0 ≡ Some list → w.items ≡ with_last id list.items → vec_capacity w ≡ vec_capacity list → Pushing olds (set lists l.var.0 w) (lits ++ l ∷ []) id
 push_step olds lists lits l list w id h n t g e c =
     record {
@@ -112,7 +112,7 @@ push_step olds lists lits l list w id h n t g e c =
       count = length-set lists l.var.0 w ∙ h.count;
     }
   where
-    last : (b : Bool) (xs : List ClauseId) → are_below id.0 xs ≡ true → with_last id (xs ++ cond b (id ∷ []) []) ≡ xs ++ id ∷ []
+    last : (b : Bool) (xs : List ShortId) → are_below id.0 xs ≡ true → with_last id (xs ++ cond b (id ∷ []) []) ≡ xs ++ id ∷ []
     last true xs a = ap (λ b. cond b (xs ++ id ∷ []) ((xs ++ id ∷ []) ++ id ∷ [])) (ends_push id xs)
     last false xs a = ap (with_last id) (append-nil xs) ∙ ap (λ b. cond b xs (xs ++ id ∷ [])) (ends_below id xs a)
 
@@ -150,7 +150,7 @@ push_step olds lists lits l list w id h n t g e c =
         omega arith
 
 -- room for the literals so far is there when there is more room
-pub room_more : (olds news : List (Vec ClauseId)) (lits : List InLit) (l : InLit) → ((v : ℕ) → room_of olds v ≤ room_of news v) → 0 < room_of news l.var.0 → list_all (has_room olds) lits ≡ true → list_all (has_room news) (lits ++ l ∷ []) ≡ true
+pub room_more : (olds news : List (Vec ShortId)) (lits : List InLit) (l : InLit) → ((v : ℕ) → room_of olds v ≤ room_of news v) → 0 < room_of news l.var.0 → list_all (has_room olds) lits ≡ true → list_all (has_room news) (lits ++ l ∷ []) ≡ true
 room_more olds news lits l m n a = all_push (has_room news) lits l (all_mono (has_room olds) (has_room news) (λ k e. each k e) lits a) (lt-ltb 0 (room_of news l.var.0) n)
   where
     each : (k : InLit) → has_room olds k ≡ true → has_room news k ≡ true
@@ -164,34 +164,34 @@ pub taken_at : {X : Type 0} (xs : List X) (i : ℕ) (d : X) → i < length xs �
 taken_at xs i d l = (take_at_read xs i d l).1
 
 -- whether an id is the last one, by the one that is read
-pub ends_last : (id : ClauseId) (xs : List ClauseId) (x : ClauseId) → Some x ≡ slice_get xs (length xs - 1) → ends_with id xs ≡ (x.0 == id.0)
+pub ends_last : (id : ShortId) (xs : List ShortId) (x : ShortId) → Some x ≡ slice_get xs (length xs - 1) → ends_with id xs ≡ (x.0 == id.0)
 ends_last id [] x e = cc
-ends_last id (y ∷ []) x e = ap (λ (k : ClauseId). k.0 == id.0) (sym (same x y e))
+ends_last id (y ∷ []) x e = ap (λ (k : ShortId). k.0 == id.0) (sym (same x y e))
   where
-    same : (a b : ClauseId) → Some a ≡ Some b → a ≡ b
+    same : (a b : ShortId) → Some a ≡ Some b → a ≡ b
     same a b q = cc
 ends_last id (y ∷ z ∷ xs) x e =
     let k : suc (suc (length xs)) - 1 ≡ suc (suc (length xs) - 1) = omega arith in
     ends_last id (z ∷ xs) x (e ∙ ap (slice_get (y ∷ z ∷ xs)) k)
 
 -- what a list becomes, where it was walked
-abbrev pub changed : (List ClauseId → List ClauseId) → Bool → List ClauseId → List ClauseId
+abbrev pub changed : (List ShortId → List ShortId) → Bool → List ShortId → List ShortId
 changed f done ids = cond done (f ids) ids
 
 -- the lists of the variables below a number were changed
-pub record Changing (f : List ClauseId → List ClauseId) (olds lists : List (Vec ClauseId)) (n : ℕ) : Type 0 where
+pub record Changing (f : List ShortId → List ShortId) (olds lists : List (Vec ShortId)) (n : ℕ) : Type 0 where
   pub ids : (v : ℕ) → ids_of lists v ≡ changed f (ltb v n) (ids_of olds v)
   pub places : (v : ℕ) → places_of lists v ≡ places_of olds v
   pub count : length lists ≡ length olds
 
-pub change_none : (f : List ClauseId → List ClauseId) (lists : List (Vec ClauseId)) → Changing f lists lists 0
+pub change_none : (f : List ShortId → List ShortId) (lists : List (Vec ShortId)) → Changing f lists lists 0
 change_none f lists = record { ids = λ v. ap (λ b. changed f b (ids_of lists v)) (sym (ltb-ge v)); places = λ v. refl; count = refl }
   where
     ltb-ge : (v : ℕ) → ltb v 0 ≡ false
     ltb-ge v = grind arith
 
 -- one list more
-pub change_more : (f : List ClauseId → List ClauseId) (olds lists : List (Vec ClauseId)) (n : ℕ) (list w : Vec ClauseId) → Changing f olds lists n → n < length lists → slice_get lists n ≡ Some list
+pub change_more : (f : List ShortId → List ShortId) (olds lists : List (Vec ShortId)) (n : ℕ) (list w : Vec ShortId) → Changing f olds lists n → n < length lists → slice_get lists n ≡ Some list
     → w.items ≡ f list.items → vec_capacity w ≡ vec_capacity list → Changing f olds (set lists n w) (n + 1)
 change_more f olds lists n list w h l g e c =
     record { ids = λ v. go v (v == n) refl; places = λ v. same_places lists n list w l g c v ∙ h.places v; count = length-set lists n w ∙ h.count }
@@ -216,10 +216,10 @@ change_more f olds lists n list w h l g e c =
         ap ids_in (at_other lists n v w m) ∙ (h.ids v ∙ ap (λ b. changed f b (ids_of olds v)) (still v m))
 
 -- all lists were walked
-pub change_all : (f : List ClauseId → List ClauseId) (olds lists : List (Vec ClauseId)) (n v : ℕ) → f [] ≡ [] → Changing f olds lists n → length olds ≤ n → ids_of lists v ≡ f (ids_of olds v)
+pub change_all : (f : List ShortId → List ShortId) (olds lists : List (Vec ShortId)) (n v : ℕ) → f [] ≡ [] → Changing f olds lists n → length olds ≤ n → ids_of lists v ≡ f (ids_of olds v)
 change_all f olds lists n v z h l = h.ids v ∙ go (ltb v n) refl
   where
-    past : (xs : List (Vec ClauseId)) (u : ℕ) → length xs ≤ u → ids_of xs u ≡ []
+    past : (xs : List (Vec ShortId)) (u : ℕ) → length xs ≤ u → ids_of xs u ≡ []
     past [] u m = refl
     past (x ∷ xs) zero m = absurd (omega arith)
     past (x ∷ xs) (suc u) m = past xs u (omega arith)

@@ -4,12 +4,13 @@ ghost use Rattle.clause_store.specs.Store.{IsKept, is_live};
 ghost use Rattle.indexed_store.specs.Lists.{ids_of, places_of, room_of, has_room, ends_with, with_last, added, are_below};
 ghost use Rattle.indexed_store.specs.Occurrences.{clauses_at, occurrences};
 
+use crate::short_id::ShortId;
 use clause_store::ClauseStore;
-use sat_lits::{ClauseId, InLit, Inner, NoMemory};
+use sat_lits::{InLit, Inner, NoMemory};
 use std::alloc::Global;
 
 /// Gives a variable an empty list, and each variable below it, where they have none.
-fn make_place(alloc: Global, lists: &mut Vec<Vec<ClauseId>>, var: Inner) -> Result<(), NoMemory>
+fn make_place(alloc: Global, lists: &mut Vec<Vec<ShortId>>, var: Inner) -> Result<(), NoMemory>
     ensures same { (v : ℕ) → ids_of lists.new.items v ≡ ids_of lists.old.items v }
     ensures room { (v : ℕ) → room_of lists.old.items v ≤ room_of lists.new.items v }
     ensures place { OnOk result (var.0 < length lists.new.items) }
@@ -20,22 +21,34 @@ fn make_place(alloc: Global, lists: &mut Vec<Vec<ClauseId>>, var: Inner) -> Resu
     Ok(())
 }
 
+/// Makes room for one more id in a list, which doubles where it is full. So it takes at most eight
+/// bytes for each id that it has held at once.
+fn reserve_place(list: &mut Vec<ShortId>) -> Result<(), NoMemory>
+    ensures items { list.new.items ≡ list.old.items }
+    ensures room { vec_capacity list.old ≤ vec_capacity list.new }
+    ensures more { OnOk result (vec_len list.new < vec_capacity list.new) }
+{
+    let count = list.len();
+    if count == list.capacity() {
+        list.reserve_exact(count.max(1))?;
+    }
+    Ok(())
+}
+
 /// Makes room for one more id in the list of a variable.
-fn reserve_one(alloc: Global, lists: &mut Vec<Vec<ClauseId>>, var: Inner) -> Result<(), NoMemory>
+fn reserve_one(alloc: Global, lists: &mut Vec<Vec<ShortId>>, var: Inner) -> Result<(), NoMemory>
     ensures same { (v : ℕ) → ids_of lists.new.items v ≡ ids_of lists.old.items v }
     ensures room { (v : ℕ) → room_of lists.old.items v ≤ room_of lists.new.items v }
     ensures more { OnOk result (0 < room_of lists.new.items var.0) }
 {
     make_place(alloc, lists, var)?;
-    let list = &mut lists[var.0 as usize];
-    list.reserve(1)?;
-    Ok(())
+    reserve_place(&mut lists[var.0 as usize])
 }
 
 /// Makes room for one more id in the list of each variable of a clause.
 pub(crate) fn reserve_each(
     alloc: Global,
-    lists: &mut Vec<Vec<ClauseId>>,
+    lists: &mut Vec<Vec<ShortId>>,
     lits: &[InLit],
 ) -> Result<(), NoMemory>
     ensures same { (v : ℕ) → ids_of lists.new.items v ≡ ids_of lists.old.items v }
@@ -48,7 +61,7 @@ pub(crate) fn reserve_each(
 }
 
 /// Whether an id is the last one.
-fn ends_with(ids: &[ClauseId], id: ClauseId) -> bool
+fn ends_with(ids: &[ShortId], id: ShortId) -> bool
     ensures { result ≡ ends_with id ids.now }
 {
     match ids.last() {
@@ -58,7 +71,7 @@ fn ends_with(ids: &[ClauseId], id: ClauseId) -> bool
 }
 
 /// Appends an id, where it is not the last one.
-fn push_once(list: &mut Vec<ClauseId>, id: ClauseId)
+fn push_once(list: &mut Vec<ShortId>, id: ShortId)
     requires { ends_with id list.old.items ≡ false → vec_len list.old < vec_capacity list.old }
     ensures items { list.new.items ≡ with_last id list.old.items }
     ensures places { vec_capacity list.new ≡ vec_capacity list.old }
@@ -69,7 +82,7 @@ fn push_once(list: &mut Vec<ClauseId>, id: ClauseId)
 }
 
 /// Appends an id, which is above those that are there, to the list of each variable of a clause.
-pub(crate) fn push_each(lists: &mut Vec<Vec<ClauseId>>, lits: &[InLit], id: ClauseId)
+pub(crate) fn push_each(lists: &mut Vec<Vec<ShortId>>, lits: &[InLit], id: ShortId)
     requires room { list_all (has_room lists.old.items) lits.now ≡ true }
     requires new { (v : ℕ) → are_below id.0 (ids_of lists.old.items v) ≡ true }
     ensures ids { (v : ℕ) → ids_of lists.new.items v ≡ ids_of lists.old.items v ++ added v lits.now id }
@@ -82,15 +95,15 @@ pub(crate) fn push_each(lists: &mut Vec<Vec<ClauseId>>, lits: &[InLit], id: Clau
 }
 
 /// Leaves the live ids alone.
-fn sweep_list(store: &ClauseStore, list: &mut Vec<ClauseId>)
+fn sweep_list(store: &ClauseStore, list: &mut Vec<ShortId>)
     ensures items { list.new.items ≡ filter (λ id. is_live store.now.held id.0) list.old.items }
     ensures places { vec_capacity list.new ≡ vec_capacity list.old }
 {
-    list.retain(|id| store.is_live(*id));
+    list.retain(|id| store.is_live(id.whole()));
 }
 
 /// Leaves the live ids alone in each list.
-pub(crate) fn sweep(store: &ClauseStore, lists: &mut Vec<Vec<ClauseId>>)
+pub(crate) fn sweep(store: &ClauseStore, lists: &mut Vec<Vec<ShortId>>)
     ensures { (v : ℕ) → ids_of lists.new.items v ≡ filter (λ id. is_live store.now.held id.0) (ids_of lists.old.items v) }
 {
     'each: for list in lists.iter_mut() {
@@ -99,7 +112,7 @@ pub(crate) fn sweep(store: &ClauseStore, lists: &mut Vec<Vec<ClauseId>>)
 }
 
 /// Empties each list. The lists keep their places.
-pub(crate) fn clear_each(lists: &mut Vec<Vec<ClauseId>>)
+pub(crate) fn clear_each(lists: &mut Vec<Vec<ShortId>>)
     ensures empty { (v : ℕ) → ids_of lists.new.items v ≡ [] }
     ensures places { (v : ℕ) → places_of lists.new.items v ≡ places_of lists.old.items v }
 {
@@ -109,7 +122,7 @@ pub(crate) fn clear_each(lists: &mut Vec<Vec<ClauseId>>)
 }
 
 /// Appends the ids of all clauses to empty lists that have places for them.
-pub(crate) fn fill(store: &ClauseStore, lists: &mut Vec<Vec<ClauseId>>)
+pub(crate) fn fill(store: &ClauseStore, lists: &mut Vec<Vec<ShortId>>)
     requires empty { (v : ℕ) → ids_of lists.old.items v ≡ [] }
     requires places { (v : ℕ) → length (occurrences v store.now.held) ≤ places_of lists.old.items v }
     ensures known { (v : ℕ) → are_below store.now.given (ids_of lists.new.items v) ≡ true }
@@ -118,7 +131,7 @@ pub(crate) fn fill(store: &ClauseStore, lists: &mut Vec<Vec<ClauseId>>)
 {
     let mut at = store.first();
     'walk: while let Some(id) = at {
-        push_each(lists, store.lits(id), id);
+        push_each(lists, store.lits(id), ShortId::of(id));
         at = store.after(id);
     }
 }

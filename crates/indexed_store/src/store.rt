@@ -4,6 +4,7 @@ ghost use Rattle.clause_store.specs.Store.{IsKept, held_as, is_live, without, co
 ghost use Rattle.indexed_store.specs.Occurrences.{clauses_at, occurrences};
 
 use crate::lists::{clear_each, fill, push_each, reserve_each, sweep};
+use crate::short_id::ShortId;
 use clause_store::ClauseStore;
 use sat_lits::{ClauseId, InLit, Inner, NoMemory};
 use std::alloc::Global;
@@ -15,7 +16,7 @@ pub struct IndexedStore {
     alloc: Global,
     store: ClauseStore,
     // By variable, in order of addition. Ids of dropped clauses may stay.
-    lists: Vec<Vec<ClauseId>>,
+    lists: Vec<Vec<ShortId>>,
     // The literals of the clauses, and of dropped ones whose ids may stand in the lists.
     live: u64,
     stale: u64,
@@ -57,7 +58,7 @@ impl IndexedStore {
 
     /// The ids of the clauses that hold a variable, in order of addition. Among them may be ids
     /// that are not live.
-    pub fn occurrences(&self, var: Inner) -> &[ClauseId]
+    pub fn occurrences(&self, var: Inner) -> &[ShortId]
         ensures value { clauses_at self.now.held result.now ≡ occurrences var.0 self.now.held }
         ensures kept { IsKept self.now }
     {
@@ -78,7 +79,7 @@ impl IndexedStore {
     {
         reserve_each(self.alloc, &mut self.lists, lits)?;
         let id = self.store.add(lits, learned)?;
-        push_each(&mut self.lists, lits, id);
+        push_each(&mut self.lists, lits, ShortId::of(id));
         self.live = self.live.saturating_add(lits.len() as u64);
         Ok(id)
     }
@@ -141,9 +142,12 @@ mod tests {
         let mut store = IndexedStore::new(rt.alloc());
         let both = store.add(&[FIRST, NOT_SECOND], false)?;
         let one = store.add(&[FIRST], true)?;
-        assert_eq!(rt; store.occurrences(Inner(0)), [both, one].as_slice());
-        assert_eq!(rt; store.occurrences(Inner(1)), [both].as_slice());
-        assert!(rt; store.store().is_live(both));
+        assert_eq!(rt;
+            store.occurrences(Inner(0)),
+            [ShortId::of(both), ShortId::of(one)].as_slice()
+        );
+        assert_eq!(rt; store.occurrences(Inner(1)), [ShortId::of(both)].as_slice());
+        assert!(rt; store.store().is_live(ShortId::of(both).whole()));
         store.drop_clause(both);
         store.compact();
         assert_eq!(rt; store.occurrences(Inner(0)).len(), 1);

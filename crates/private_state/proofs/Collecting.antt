@@ -18,6 +18,7 @@ use Rattle.rebuild_stack.specs.PutInLaws.{put_in_passes, put_in_clean}
 use Rattle.rebuild_stack.specs.declared.entry.Root.{Root}
 use Rattle.clause_store.specs.Store.{Store, Held, clause_at, is_live, without}
 use Rattle.var_maps.specs.Maps.{Maps, Matched, inner_at, owner_at}
+use Rattle.indexed_store.specs.declared.short_id.ShortId.{ShortId}
 use Rattle.indexed_store.specs.Occurrences.{holds, occurrences, clauses_at}
 use Rattle.state_laws.specs.Held.{OwnClause, own_or, own_clause, own_of, has_inner, touches, strip, in_own, relisted, put_each, is_ready, numbers, without_ids}
 use Rattle.state_laws.specs.HeldLaws.{found, all_found, without_more}
@@ -199,15 +200,15 @@ filter_twice p q h (x ∷ xs) = go (q x) (h x) (filter_twice p q h xs)
     go false e r = rw e r
 
 -- what was collected of the clauses in a variable's list is what is collected of all
-pub collected_all : (m : Maps) (r : OwnLit → Root) (v : ℕ) (i : Inner) (hs : List Held) (ids : List ClauseId) (to : Changes) → Matched m → inner_at m v ≡ Some i → clauses_at hs ids ≡ occurrences i.0 hs
+pub collected_all : (m : Maps) (r : OwnLit → Root) (v : ℕ) (i : Inner) (hs : List Held) (ids : List ShortId) (to : Changes) → Matched m → inner_at m v ≡ Some i → clauses_at hs ids ≡ occurrences i.0 hs
     → Collects m r v (clauses_at hs ids) to → Collects m r v hs to
 collected_all m r v i hs ids to d e f c = collected_same m r v (clauses_at hs ids) hs to (ap (filter (touches m v)) f ∙ filter_twice (touches m v) (holds i.0) (touches_holds m v i d e) hs) c
 
 -- one id more of a list is walked
-pub clauses_at-more : (hs : List Held) (ids : List ClauseId) (k : ℕ) (d : ClauseId) → k < length ids → clauses_at hs (take (k + 1) ids) ≡ clauses_at hs (take k ids) ++ option_to_list (clause_at hs (get_or ids k d).0)
+pub clauses_at-more : (hs : List Held) (ids : List ShortId) (k : ℕ) (d : ShortId) → k < length ids → clauses_at hs (take (k + 1) ids) ≡ clauses_at hs (take k ids) ++ option_to_list (clause_at hs (get_or ids k d).0)
 clauses_at-more hs ids k d l =
     ap (clauses_at hs) (taken_at ids k d l)
-    ∙ (filter_map-append (λ (i : ClauseId). clause_at hs i.0) (take k ids) (get_or ids k d ∷ []) ∙ ap (λ z. clauses_at hs (take k ids) ++ z) (last (clause_at hs (get_or ids k d).0)))
+    ∙ (filter_map-append (λ (i : ShortId). clause_at hs i.0) (take k ids) (get_or ids k d ∷ []) ∙ ap (λ z. clauses_at hs (take k ids) ++ z) (last (clause_at hs (get_or ids k d).0)))
   where
     last : (o : Option Held) → cons_option o [] ≡ option_to_list o
     last None = refl
@@ -221,7 +222,7 @@ holds_all v (h ∷ hs) = go (holds v h) refl (holds_all v hs)
     go true e r = and_from _ _ e r
     go false e r = r
 
-named_passes : (p : Held → Bool) (hs : List Held) (ids : List ClauseId) (k : ℕ) (d : ClauseId) (h : Held) → list_all p (clauses_at hs ids) ≡ true → k < length ids → clause_at hs (get_or ids k d).0 ≡ Some h → p h ≡ true
+named_passes : (p : Held → Bool) (hs : List Held) (ids : List ShortId) (k : ℕ) (d : ShortId) (h : Held) → list_all p (clauses_at hs ids) ≡ true → k < length ids → clause_at hs (get_or ids k d).0 ≡ Some h → p h ≡ true
 named_passes p hs [] k d h a l e = absurd (omega arith)
 named_passes p hs (x ∷ ids) zero d h a l e = (and_parts (p h) (list_all p (clauses_at hs ids)) (sym (ap (λ o. list_all p (cons_option o (clauses_at hs ids))) e) ∙ a)).0
 named_passes p hs (x ∷ ids) (suc k) d h a l e = named_passes p hs ids k d h (rest (clause_at hs x.0) a) (omega arith) e
@@ -231,7 +232,7 @@ named_passes p hs (x ∷ ids) (suc k) d h a l e = named_passes p hs ids k d h (r
     rest (Some j) q = (and_parts (p j) (list_all p (clauses_at hs ids)) q).1
 
 -- a clause of a variable's list holds the variable
-pub listed_touches : (m : Maps) (v : ℕ) (i : Inner) (hs : List Held) (ids : List ClauseId) (k : ℕ) (d : ClauseId) → Matched m → inner_at m v ≡ Some i → clauses_at hs ids ≡ occurrences i.0 hs → k < length ids
+pub listed_touches : (m : Maps) (v : ℕ) (i : Inner) (hs : List Held) (ids : List ShortId) (k : ℕ) (d : ShortId) → Matched m → inner_at m v ≡ Some i → clauses_at hs ids ≡ occurrences i.0 hs → k < length ids
     → IfSome (clause_at hs (get_or ids k d).0) (λ h. IsTrue (touches m v h))
 listed_touches m v i hs ids k d q e f l = go (clause_at hs (get_or ids k d).0) refl
   where

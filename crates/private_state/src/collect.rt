@@ -164,7 +164,7 @@ pub(crate) fn collect(
         fresh: Vec::new(alloc),
     };
     'walk: for id in ids {
-        collect_one(alloc, maps, store.store(), entry, *id, &mut to)?;
+        collect_one(alloc, maps, store.store(), entry, id.whole(), &mut to)?;
     }
     Ok(to)
 }

@@ -1,5 +1,5 @@
 use Rattle.std.proofs.Common.{◌∙◌, ◌≤◌, ◌+◌, ℕ, sym, ap, subst, take_all, take, length, arith, rules}
-use Rattle.clause_store.specs.Words.{is_live_header, held_from, places_of}
+use Rattle.clause_store.specs.Words.{held_from, places_of}
 use Rattle.clause_store.specs.Laws.{before-none}
 use Rattle.clause_store.proofs.Places.{before-live}
 use Rattle.clause_store.proofs.Blocks.{no_lit, is_live-word, walk_step, length-places_of}

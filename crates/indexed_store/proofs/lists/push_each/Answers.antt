@@ -2,7 +2,7 @@ use Rattle.std.proofs.Common.{◌≡◌, ◌<◌, ℕ, sym, subst, arith, true, 
 use Rattle.std.specs.Global.{Vec}
 use Rattle.std.specs.List.{list_all}
 use Rattle.sat_lits.specs.declared.literal.InLit.{InLit}
-use Rattle.sat_lits.specs.declared.literal.ClauseId.{ClauseId}
+use Rattle.indexed_store.specs.declared.short_id.ShortId.{ShortId}
 use Rattle.indexed_store.specs.Lists.{has_room, room_of}
 use Rattle.indexed_store.proofs.Rooms.{Pushing, room_there, all_at, at_read, push_ready, push_step, taken_at}
 use Rattle.indexed_store.proofs.lists.push_each.Goals as goal
@@ -10,10 +10,10 @@ use Rattle.indexed_store.proofs.lists.push_each.Goals as goal
 abbrev some : InLit
 some = record { var = record { 0 = 0 }; negative = false }
 
-room : (olds : List (Vec ClauseId)) (lits : List InLit) (k : ℕ) → list_all (has_room olds) lits ≡ true → k < length lits → 0 < room_of olds (get_or lits k some).var.0
+room : (olds : List (Vec ShortId)) (lits : List InLit) (k : ℕ) → list_all (has_room olds) lits ≡ true → k < length lits → 0 < room_of olds (get_or lits k some).var.0
 room olds lits k e l = ltb-true _ _ (all_at (has_room olds) lits k some e l)
 
-there : (olds lists : List (Vec ClauseId)) (lits seen : List InLit) (k : ℕ) (id : ClauseId) → Pushing olds lists seen id → list_all (has_room olds) lits ≡ true → k < length lits → (get_or lits k some).var.0 < length lists
+there : (olds lists : List (Vec ShortId)) (lits seen : List InLit) (k : ℕ) (id : ShortId) → Pushing olds lists seen id → list_all (has_room olds) lits ≡ true → k < length lits → (get_or lits k some).var.0 < length lists
 there olds lists lits seen k id h e l = subst (λ n. (get_or lits k some).var.0 < n) (sym h.count) (room_there olds (get_or lits k some).var.0 (room olds lits k e l))
 
 pub index_mut-list-requires : goal.index_mut-list-requires

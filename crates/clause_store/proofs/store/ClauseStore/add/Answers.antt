@@ -1,4 +1,4 @@
-use Rattle.std.proofs.Common.{◌≡◌, ◌∙◌, [], ◌∷◌, ◌++◌, true, ap, refl, sym, subst, List, length}
+use Rattle.std.proofs.Common.{◌≡◌, ◌∙◌, [], ◌∷◌, ◌++◌, true, ◌+◌, ◌≤◌, ◌^◌, suc, ap, refl, sym, subst, arith, List, length, length-append}
 use Rattle.std.specs.List.{list_all}
 use Rattle.sat_lits.specs.InLits.{is_distinct}
 use Rattle.sat_lits.specs.declared.literal.InLit.{InLit}
@@ -18,9 +18,16 @@ stands c = sym c.can_stand.ensures ∙ c.if-not-can_stand.false
 all_distinct : (c : After-append) → list_all (λ h. is_distinct h.lits) (held_in c.append.new.words.items) ≡ true
 all_distinct c = rw (longer c) (add_distinct c.self.inside.words.items c.args.lits.now c.args.learned c.self.invariant.blocks (stands c) c.self.invariant.distinct c.requires)
 
+-- there are not too many of them
+few : (c : After-append) → length c.append.new.words.items ≤ 2 ^ 32
+few c =
+    let l : length c.append.new.words.items ≡ length c.self.inside.words.items + suc (length c.args.lits.now) = ap length (longer c) ∙ length-append c.self.inside.words.items _ in
+    omega (arith, l, c.len-place.ensures, c.self.inside.words.ok.0, c.self.invariant.few, c.if-lits-place.false)
+
 pub invariant_of-self-2 : goal.invariant_of-self-2
 invariant_of-self-2 c = record {
   blocks = subst (λ (ws : List InLit). AreBlocks ws 0) (sym (longer c)) (blocks-add c.self.inside.words.items c.args.lits.now c.args.learned c.self.invariant.blocks (stands c));
+  few = few c;
   distinct = all_distinct c;
 }
 
@@ -30,19 +37,25 @@ returns-clause-held c =
     (ap (λ n. held_in c.self.inside.words.items ++ held_as n c.args.learned c.args.lits.now ∷ []) (sym (c.len-place.ensures ∙ c.self.inside.words.ok.0)))
 
 pub returns-then-not-can_stand-clause-kept : goal.returns-then-not-can_stand-clause-kept
-returns-then-not-can_stand-clause-kept c = stored_kept c.self.inside.words.items c.args.self.now c.self.view_is c.self.invariant.distinct
+returns-then-not-can_stand-clause-kept c = stored_kept c.self.inside.words.items c.args.self.now c.self.view_is c.self.invariant.few c.self.invariant.distinct
 
 pub returns-then-not-can_stand-clause-stays_kept : goal.returns-then-not-can_stand-clause-stays_kept
-returns-then-not-can_stand-clause-stays_kept c = stored_kept c.self.inside.words.items c.args.self.now c.self.view_is c.self.invariant.distinct
+returns-then-not-can_stand-clause-stays_kept c = stored_kept c.self.inside.words.items c.args.self.now c.self.view_is c.self.invariant.few c.self.invariant.distinct
 
 pub returns-in_err-reserve-clause-kept : goal.returns-in_err-reserve-clause-kept
-returns-in_err-reserve-clause-kept c = stored_kept c.self.inside.words.items c.args.self.now c.self.view_is c.self.invariant.distinct
+returns-in_err-reserve-clause-kept c = stored_kept c.self.inside.words.items c.args.self.now c.self.view_is c.self.invariant.few c.self.invariant.distinct
 
 pub returns-in_err-reserve-clause-stays_kept : goal.returns-in_err-reserve-clause-stays_kept
-returns-in_err-reserve-clause-stays_kept c = stored_kept c.reserve.new.self.items _ refl (rw c.in_err-reserve.ensures.items c.self.invariant.distinct)
+returns-in_err-reserve-clause-stays_kept c = stored_kept c.reserve.new.self.items _ refl (rw c.in_err-reserve.ensures.items c.self.invariant.few) (rw c.in_err-reserve.ensures.items c.self.invariant.distinct)
 
 pub returns-clause-kept : goal.returns-clause-kept
-returns-clause-kept c = stored_kept c.self.inside.words.items c.args.self.now c.self.view_is c.self.invariant.distinct
+returns-clause-kept c = stored_kept c.self.inside.words.items c.args.self.now c.self.view_is c.self.invariant.few c.self.invariant.distinct
 
 pub returns-clause-stays_kept : goal.returns-clause-stays_kept
-returns-clause-stays_kept c = stored_kept c.append.new.words.items _ refl (all_distinct c)
+returns-clause-stays_kept c = stored_kept c.append.new.words.items _ refl (few c) (all_distinct c)
+
+pub returns-then-lits-place-clause-kept : goal.returns-then-lits-place-clause-kept
+returns-then-lits-place-clause-kept c = stored_kept c.self.inside.words.items c.args.self.now c.self.view_is c.self.invariant.few c.self.invariant.distinct
+
+pub returns-then-lits-place-clause-stays_kept : goal.returns-then-lits-place-clause-stays_kept
+returns-then-lits-place-clause-stays_kept c = stored_kept c.self.inside.words.items c.args.self.now c.self.view_is c.self.invariant.few c.self.invariant.distinct

@@ -1,4 +1,4 @@
-use Rattle.std.proofs.Common.{◌≡◌, ◌∙◌, ◌+◌, true, false, sym, ap, subst, sum_by, length, refl, arith, List, zero-add}
+use Rattle.std.proofs.Common.{◌≡◌, ◌∙◌, ◌+◌, ◌≤◌, ◌^◌, true, false, sym, ap, subst, sum_by, length, refl, arith, List, zero-add}
 use Rattle.std.proofs.lemmas.List.{take-take, take-append-le}
 use Rattle.std.specs.List.{list_all}
 use Rattle.sat_lits.specs.InLits.{is_distinct}
@@ -7,7 +7,7 @@ use Rattle.clause_store.specs.Store.{Held, Store, contents}
 use Rattle.clause_store.specs.Words.{closed_up, held_in, AreBlocks}
 use Rattle.clause_store.specs.Laws.{hard_of-contents, learned_of-contents}
 use Rattle.clause_store.proofs.Blocks.{stored_kept}
-use Rattle.clause_store.proofs.Closing.{blocks_closed, contents_closed, length-closed, all_distinct-contents}
+use Rattle.clause_store.proofs.Closing.{blocks_closed, contents_closed, length-closed, closed_short, all_distinct-contents}
 use Rattle.clause_store.proofs.store.ClauseStore.compact.Goals as goal
 use Rattle.clause_store.proofs.store.ClauseStore.compact.Goals.{After-truncate}
 
@@ -26,9 +26,16 @@ same_contents c = ap (λ ws. contents (held_in ws)) (left c) ∙ contents_closed
 all_distinct : (c : After-truncate) → list_all (λ h. is_distinct h.lits) (held_in c.truncate.new.self.items) ≡ true
 all_distinct c = all_distinct-contents (held_in c.truncate.new.self.items) (held_in c.self.inside.words.items) (same_contents c) c.self.invariant.distinct
 
+few : (c : After-truncate) → length c.truncate.new.self.items ≤ 2 ^ 32
+few c =
+    let l : length (closed_up false c.self.inside.words.items) ≤ length c.self.inside.words.items = closed_short c.self.inside.words.items false in
+    let m : length c.truncate.new.self.items ≡ length (closed_up false c.self.inside.words.items) = ap length (left c) in
+    omega (arith, l, m, c.self.invariant.few)
+
 pub invariant_of-self : goal.invariant_of-self
 invariant_of-self c = record {
   blocks = subst (λ (ws : List InLit). AreBlocks ws 0) (sym (left c)) (blocks_closed c.self.inside.words.items 0 false c.self.invariant.blocks);
+  few = few c;
   distinct = all_distinct c;
 }
 
@@ -48,4 +55,4 @@ returns-clause-given c =
     ∙ (zero-add _ ∙ ap (λ (s : Store). sum_by (λ (h : Held). length h.lits + 1) s.held) c.self.view_is))
 
 pub returns-clause-kept : goal.returns-clause-kept
-returns-clause-kept c = stored_kept c.truncate.new.self.items _ refl (all_distinct c)
+returns-clause-kept c = stored_kept c.truncate.new.self.items _ refl (few c) (all_distinct c)

@@ -1,19 +1,31 @@
-use Rattle.std.proofs.Common.{◌∙◌, ◌++◌, ap}
+use Rattle.std.proofs.Common.{◌≡◌, ◌≤◌, ◌<◌, ◌∙◌, ◌∷◌, [], ◌++◌, ap, arith}
+use Rattle.clause_store.specs.Store.{held_as}
 use Rattle.indexed_store.specs.Lists.{ids_of, are_below, added}
 use Rattle.indexed_store.proofs.Indexing.{found_more, ids_below, below_more}
 use Rattle.indexed_store.proofs.store.IndexedStore.add.Goals as goal
+use Rattle.indexed_store.proofs.store.IndexedStore.add.Goals.{After-of}
+
+pub of-requires : goal.of-requires
+of-requires c = omega (arith, c.in_ok-id.ensures.given, c.in_ok-id.ensures.stays_kept.few)
+
+-- the short id was not given before
+fresh : (c : After-of) → c.self.inside.store.given ≤ c.of.result.0
+fresh c = rw c.of.ensures c.in_ok-id.ensures.fresh
 
 pub push_each-requires-clause-new : goal.push_each-requires-clause-new
 push_each-requires-clause-new c = λ v.
-    ap (are_below c.in_ok-id.id.0) (c.in_ok-reserve_each.ensures.same v)
-    ∙ below_more c.self.inside.store.given c.in_ok-id.id.0 (ids_of c.self.inside.lists.items v) c.in_ok-id.ensures.fresh (c.self.invariant.known v)
+    ap (are_below c.of.result.0) (c.in_ok-reserve_each.ensures.same v)
+    ∙ below_more c.self.inside.store.given c.of.result.0 (ids_of c.self.inside.lists.items v) (fresh c) (c.self.invariant.known v)
 
 pub invariant_of-self-2 : goal.invariant_of-self-2
 invariant_of-self-2 c =
+    let given : c.of.result.0 < c.add.new.self.given = rw c.of.ensures c.in_ok-id.ensures.given in
+    let held : c.add.new.self.held ≡ c.self.inside.store.held ++ held_as c.of.result.0 c.args.learned c.args.lits.now ∷ [] = rw c.of.ensures c.in_ok-id.ensures.held in
+    let new : c.self.inside.store.given ≤ c.of.result.0 = fresh ((goal.at.invariant_of-self-2 c).After-of) in
     record {
       kept = c.in_ok-id.ensures.stays_kept;
-      known = λ v. ids_below (ids_of c.self.inside.lists.items v) (ids_of c.push_each.new.lists.items v) c.self.inside.store.given c.add.new.self.given v c.in_ok-id.id c.args.lits.now (c.self.invariant.known v) c.in_ok-id.ensures.fresh c.in_ok-id.ensures.given
-          (c.push_each.ensures.ids v ∙ ap (λ z. z ++ added v c.args.lits.now c.in_ok-id.id) (c.in_ok-reserve_each.ensures.same v));
-      found = λ v. found_more c.self.inside.store.held c.add.new.self.held c.self.inside.store.given v c.in_ok-id.id c.args.learned c.args.lits.now (ids_of c.self.inside.lists.items v) (ids_of c.push_each.new.lists.items v) c.self.invariant.kept.below (c.self.invariant.known v) c.in_ok-id.ensures.fresh c.in_ok-id.ensures.held
-          (c.push_each.ensures.ids v ∙ ap (λ z. z ++ added v c.args.lits.now c.in_ok-id.id) (c.in_ok-reserve_each.ensures.same v)) (c.self.invariant.found v);
+      known = λ v. ids_below (ids_of c.self.inside.lists.items v) (ids_of c.push_each.new.lists.items v) c.self.inside.store.given c.add.new.self.given v c.of.result c.args.lits.now (c.self.invariant.known v) new given
+          (c.push_each.ensures.ids v ∙ ap (λ z. z ++ added v c.args.lits.now c.of.result) (c.in_ok-reserve_each.ensures.same v));
+      found = λ v. found_more c.self.inside.store.held c.add.new.self.held c.self.inside.store.given v c.of.result c.args.learned c.args.lits.now (ids_of c.self.inside.lists.items v) (ids_of c.push_each.new.lists.items v) c.self.invariant.kept.below (c.self.invariant.known v) new held
+          (c.push_each.ensures.ids v ∙ ap (λ z. z ++ added v c.args.lits.now c.of.result) (c.in_ok-reserve_each.ensures.same v)) (c.self.invariant.found v);
     }
