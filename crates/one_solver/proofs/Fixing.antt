@@ -34,6 +34,7 @@ use Rattle.private_state.specs.Removed.{fixed_value}
 use Rattle.private_state.proofs.Moving.{active_unnamed}
 use Rattle.one_solver.specs.Basic.{is_clause, IsBasic}
 use Rattle.one_solver.specs.Fixing.{IsHeldOrFixed, IsFixing}
+use Rattle.one_solver.specs.Learned.{HasForgotten}
 use Rattle.one_solver.specs.Units.{is_short, is_empty, is_unit, HasNoUnits, IsFixed, FixesUnits, TookSame}
 
 -- a clause of one literal is that literal
@@ -262,3 +263,7 @@ renumbered_fixed first k n e f o l u = ap (λ (z : Kernel). fixed_value (entry_o
 
 pub renumbered_left : (k n : Kernel) → n ≡ record k { store = n.store } → state_of n ≡ state_of k → (k.okay ≡ true → HasNoUnits k) → n.okay ≡ true → HasNoUnits n
 renumbered_left k n e q h o = ap (λ (s : State). list_all (λ c. not (is_short c)) s.hard) q ∙ h (sym (ap (λ (z : Kernel). z.okay) e) ∙ o)
+
+-- nor do learned clauses that are dropped
+pub forgot_left : (k n : Kernel) → HasForgotten k n → (k.okay ≡ true → HasNoUnits k) → n.okay ≡ true → HasNoUnits n
+forgot_left k n f h o = ap (list_all (λ c. not (is_short c))) f.hard ∙ h (sym (ap (λ (z : Kernel). z.okay) f.same) ∙ o)

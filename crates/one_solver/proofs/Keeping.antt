@@ -1,5 +1,5 @@
 -- The oldest long learned clauses are dropped, one after another.
-use Rattle.std.proofs.Common.{◌≡◌, ℕ, zero, suc, ◌&&◌, ◌+◌, ◌<◌, ◌==◌, Bool, true, false, cond, not, ltb, List, [], ◌∷◌, Some, refl, sym, ap, subst, ◌∙◌, arith, length, filter, drop, map, take, min, get_or, ◌++◌, ◌-◌, Option, option_map, option_to_list, unwrap_or, ltb-true, eqb-true, ne_eqb, eq-eqb, add-one}
+use Rattle.std.proofs.Common.{◌≡◌, ℕ, zero, suc, ◌&&◌, ◌+◌, ◌<◌, ◌≤◌, ◌==◌, Bool, true, false, cond, not, ltb, List, [], ◌∷◌, Some, refl, sym, ap, subst, ◌∙◌, arith, length, filter, drop, map, take, min, get_or, ◌++◌, ◌-◌, Option, option_map, option_to_list, unwrap_or, ltb-true, eqb-true, ne_eqb, eq-eqb, add-one, length-drop}
 use Rattle.std.proofs.Math.Seq.{drop-cons}
 use Rattle.std.proofs.lemmas.Bool.{and_parts, and_from}
 use Rattle.std.proofs.lemmas.List.{get_or-map, get_or-take, get_or_default, map-append, length-map, length-take, append-nil}
@@ -243,3 +243,11 @@ others_in held news e = contents-filter (λ c. not (is_long_in c)) news ∙ (ap 
 -- so they are where clauses get other ids
 pub newest_renumbered : (keep : ℕ) (first now news : List Held) → KeepsNewest keep first now → contents news ≡ contents now → KeepsNewest keep first news
 newest_renumbered keep first now news k e = record { long = long_in now news e ∙ k.long; others = others_in now news e ∙ k.others }
+
+-- where the newest are left, there are few
+pub few_left : (keep : ℕ) (first now : List Held) → KeepsNewest keep first now → length (filter is_long now) ≤ keep
+few_left keep first now k =
+    let n : ℕ = length (filter is_long first) in
+    let a : length (filter is_long now) ≡ length (drop (n - keep) (contents (filter is_long first))) = sym (length-map (filter is_long now) (λ (h : Held). (h.learned, h.lits))) ∙ ap length k.long in
+    let b : length (contents (filter is_long first)) ≡ n = length-map (filter is_long first) (λ (h : Held). (h.learned, h.lits)) in
+    omega (arith, a, b, length-drop (n - keep) (contents (filter is_long first)))

@@ -10,6 +10,7 @@ mod solver;
 mod take;
 #[cfg(test)]
 mod tests;
+mod tidy;
 mod units;
 
 pub use answer::StepAnswer;

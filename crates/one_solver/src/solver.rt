@@ -15,8 +15,8 @@ ghost use Rattle.one_solver.specs.Units.{FixesUnits, HasNoUnits};
 ghost use Rattle.one_solver.specs.Steps.{IsUnderWay, StepsRight, IsTidy, IsRefuted, HasNoModel, IsModelOrNone, IsOverOrNone};
 
 use crate::answer::StepAnswer;
-use crate::learned::forget_old;
 use crate::take::take_formula;
+use crate::tidy::tidy;
 use crate::units::fix_units;
 use analyze::Tally;
 use private_state::PrivateState;
@@ -251,8 +251,7 @@ impl OneSolver {
         ensures same { self.new ≡ record self.old { kernel = self.new.kernel } }
         ensures problem { problem_in self.new ≡ problem_in self.old }
     {
-        fix_units(&mut self.state)?;
-        forget_old(self.alloc, &mut self.state, keep)
+        tidy(self.alloc, &mut self.state, keep)
     }
 }
 

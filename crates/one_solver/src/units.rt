@@ -45,11 +45,11 @@ pub fn fix_units(state: &mut PrivateState) -> Result<(), NoMemory>
     Ok(())
 }
 
-/// Fixes the literals, and tells whether there was one.
+/// Fixes the literals, and tells whether there was one. The clauses that stay keep their ids.
 ///
 /// One walk meets each clause once: what a fix makes shorter stands behind the others, under a new
 /// id.
-fn fix_each(state: &mut PrivateState) -> Result<bool, NoMemory>
+pub fn fix_each(state: &mut PrivateState) -> Result<bool, NoMemory>
     requires basic { IsBasic state.old }
     ensures basic { IsBasic state.new }
     ensures same { TookSame state.old state.new }
