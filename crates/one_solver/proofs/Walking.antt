@@ -52,7 +52,7 @@ unit_found held id l e = go (clause_at held id) refl e
     go (Some h) f g = let same : h.lits ≡ l ∷ [] = cc in found_any (λ k. is_unit (same_lit l) k.lits) held id h f (ap (is_unit (same_lit l)) same ∙ same_itself l)
 
 -- the clause of an id has it
-found_id : (held : List Held) (id : ℕ) (h : Held) → clause_at held id ≡ Some h → h.id ≡ id
+pub found_id : (held : List Held) (id : ℕ) (h : Held) → clause_at held id ≡ Some h → h.id ≡ id
 found_id [] id h e = cc
 found_id (k ∷ held) id h e = go (k.id == id) refl (found_id held id h) e
   where

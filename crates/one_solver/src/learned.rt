@@ -1,6 +1,6 @@
-ghost use Rattle.std.specs.Prelude.{◌≡◌, ◌↔◌, ◌<◌, length, map, filter, IfOk, IsTrue};
+ghost use Rattle.std.specs.Prelude.{◌≡◌, ◌↔◌, ◌<◌, length, map, filter, IfOk, OnOk, IsTrue};
 ghost use Rattle.clause_store.specs.Store.{IsKept, is_live};
-ghost use Rattle.one_solver.specs.Learned.{is_long, is_long_at, HasForgotten, KeepsNewest};
+ghost use Rattle.one_solver.specs.Learned.{is_long, is_long_at, noted, numbers_in, HasForgotten, KeepsNewest};
 
 use clause_store::ClauseStore;
 use private_state::PrivateState;
@@ -21,6 +21,24 @@ pub fn long_learned(alloc: Global, store: &ClauseStore) -> Result<Vec<ClauseId>,
         at = store.after(id);
     }
     Ok(ids)
+}
+
+/// Appends the id of a live clause to a list, where there is one and the clause is a learned one of
+/// more than two literals. The only error is want of memory.
+pub fn note_long(
+    ids: &mut Option<Vec<ClauseId>>,
+    store: &ClauseStore,
+    id: ClauseId,
+) -> Result<(), NoMemory>
+    requires { IsTrue (is_live store.now.held id.0) }
+    ensures { OnOk result (numbers_in ids.new ≡ noted (is_long_at store.now.held id.0) id.0 (numbers_in ids.old)) }
+{
+    if let Some(list) = ids {
+        if is_long_learned(store, id) {
+            list.push(id)?;
+        }
+    }
+    Ok(())
 }
 
 /// Drops the learned clauses of more than two literals, whose ids these are, but for so many of the

@@ -1,8 +1,11 @@
-ghost use Rattle.std.specs.Prelude.{◌≡◌, Some, IfSome, OnOk, IsTrue};
+ghost use Rattle.std.specs.Prelude.{◌≡◌, [], Some, None, IfSome, IfOk, OnOk, IsTrue};
 ghost use Rattle.clause_store.specs.Store.{IsKept, Held, clause_at, is_live};
 ghost use Rattle.one_solver.specs.Basic.{IsBasic};
+ghost use Rattle.one_solver.specs.Learned.{numbers_in, NotesLong};
+ghost use Rattle.one_solver.specs.Fixing.{NotesTo};
 ghost use Rattle.one_solver.specs.Units.{IsLength, FindsShort, HasNoUnits, FixesUnits, TookSame};
 
+use crate::learned::note_long;
 use clause_store::ClauseStore;
 use private_state::{PrivateState, own_lit};
 use sat_lits::{ClauseId, InLit, NoMemory};
@@ -39,28 +42,34 @@ pub fn fix_units(state: &mut PrivateState) -> Result<(), NoMemory>
     ensures fixed { OnOk result (IsTrue state.new.okay → FixesUnits state.old state.new) }
     ensures left { OnOk result (IsTrue state.new.okay → HasNoUnits state.new) }
 {
-    if fix_each(state)? {
+    if fix_each(state, &mut None)? {
         state.compact();
     }
     Ok(())
 }
 
-/// Fixes the literals, and tells whether there was one. The clauses that stay keep their ids.
+/// Fixes the literals, and tells whether there was one. The clauses that stay keep their ids. The
+/// walk notes the ids of learned clauses of more than two literals in an empty list, if there is
+/// one: those that are live at the end are all that there are. The list is gone where the state is
+/// refuted, since the walk ends early then.
 ///
 /// One walk meets each clause once: what a fix makes shorter stands behind the others, under a new
 /// id.
-pub fn fix_each(state: &mut PrivateState) -> Result<bool, NoMemory>
+pub fn fix_each(state: &mut PrivateState, ids: &mut Option<Vec<ClauseId>>) -> Result<bool, NoMemory>
     requires basic { IsBasic state.old }
+    requires empty { IfSome (numbers_in ids.old) (λ numbers. numbers ≡ []) }
     ensures basic { IsBasic state.new }
     ensures same { TookSame state.old state.new }
     ensures fixed { OnOk result (IsTrue state.new.okay → FixesUnits state.old state.new) }
     ensures left { OnOk result (IsTrue state.new.okay → HasNoUnits state.new) }
+    ensures noted { OnOk result (NotesLong state.new.store None ids.new) }
 {
     let mut fixed = false;
     let mut at = state.clauses().first();
     'units: loop {
-        match find_short(state.clauses(), at) {
+        match find_short(state.clauses(), at, ids)? {
             Short::Empty => {
+                *ids = None;
                 state.refute();
                 return Ok(fixed);
             }
@@ -74,20 +83,29 @@ pub fn fix_each(state: &mut PrivateState) -> Result<bool, NoMemory>
     }
 }
 
-/// The first clause of at most one literal from that of a live id on.
-fn find_short(store: &ClauseStore, start: Option<ClauseId>) -> Short
+/// The first clause of at most one literal from that of a live id on. The ids of the learned clauses
+/// of more than two literals that the walk passes are noted. The only error is want of memory.
+fn find_short(
+    store: &ClauseStore,
+    start: Option<ClauseId>,
+    ids: &mut Option<Vec<ClauseId>>,
+) -> Result<Short, NoMemory>
     requires { IfSome start (λ id. IsTrue (is_live store.now.held id.0)) }
-    ensures { FindsShort store.now start result }
+    ensures found { IfOk result (λ short. FindsShort store.now start short) }
+    ensures noted { IfOk result (λ short. NotesTo store.now start short ids.old ids.new) }
 {
     let mut at = start;
     'walk: while let Some(id) = at {
         match length_of(store, id) {
-            Length::Empty => return Short::Empty,
-            Length::Single(lit) => return Short::Single(id, lit),
-            Length::Longer => at = store.after(id),
+            Length::Empty => return Ok(Short::Empty),
+            Length::Single(lit) => return Ok(Short::Single(id, lit)),
+            Length::Longer => {
+                note_long(ids, store, id)?;
+                at = store.after(id);
+            }
         }
     }
-    Short::End
+    Ok(Short::End)
 }
 
 /// The length of the clause of a live id.
