@@ -5,3 +5,4 @@ pub mod Statuses
 pub mod RemovedKept
 pub mod Taking
 pub mod Kept
+pub mod Rebuilt

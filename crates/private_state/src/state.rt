@@ -3,6 +3,7 @@ ghost use Rattle.std.specs.List.{list_any};
 ghost use Rattle.sat_lits.specs.Truth.{clauses_value};
 ghost use Rattle.sat_lits.specs.Meaning.{IsModel};
 ghost use Rattle.rebuild_stack.specs.Entries.{named, is_block_of};
+ghost use Rattle.rebuild_stack.specs.Roots.{root};
 ghost use Rattle.rebuild_stack.specs.declared.entry.Entry.TheVariants.{Fix};
 ghost use Rattle.clause_store.specs.Store.{contents, hard_of, without};
 ghost use Rattle.var_maps.specs.Maps.{plain, retired};
@@ -13,6 +14,8 @@ ghost use Rattle.state_laws.specs.Held.{in_value};
 ghost use Rattle.state_laws.specs.Kernel.{Standing, no_kernel, state_of, plain_kernel, Learns, Keeps, Longer, IsLearnedId, IsImplied};
 ghost use Rattle.state_laws.specs.RootTableLaws.{entry_of};
 ghost use Rattle.private_state.specs.Removed.{last_lit, fixed_value};
+ghost use Rattle.private_state.specs.Statuses.{status_of, IsEnd};
+ghost use Rattle.private_state.specs.Rebuilt.{rebuilt_values};
 ghost use Rattle.private_state.specs.Taking.{IsTakable, item_taken};
 
 use crate::collect::{add_all, collect, drop_all};
@@ -117,7 +120,9 @@ impl PrivateState {
     /// The literal to which replacements lead from a literal, itself where its variable is not
     /// replaced.
     pub fn root_of(&self, lit: OwnLit) -> OwnLit
-        ensures { result ≡ last_lit self.now.stack lit }
+        ensures last { result ≡ last_lit self.now.stack lit }
+        ensures root { root self.now.stack result ≡ root self.now.stack lit }
+        ensures end { IsEnd (status_of (entry_of result.var.0 self.now.stack)) }
     {
         self.removed.last(lit)
     }
@@ -284,13 +289,14 @@ impl PrivateState {
     }
 
     /// The values of the outer variables, in order, rebuilt from the values of the inner ones. The
-    /// state is okay, and the inner values satisfy the hard clauses. The only error is want of
-    /// memory.
+    /// state is okay, and the inner values satisfy the hard clauses. So they are a model of the items
+    /// taken. The only error is want of memory.
     pub fn outer_model(&self, inner: &[bool]) -> Result<List<bool>, NoMemory>
         requires okay { IsTrue self.now.okay }
         requires long { length inner.now ≡ length self.now.maps.owners }
         requires satisfied { IsTrue (clauses_value (in_value inner.now) (hard_of self.now.store.held)) }
-        ensures { IfOk result (λ values. IsModel (problem_of (state_of self.now)) values) }
+        ensures model { IfOk result (λ values. IsModel (problem_of (state_of self.now)) values) }
+        ensures rebuilt { IfOk result (λ values. values ≡ rebuilt_values self.now inner.now) }
     {
         let mut own = own_values(self.alloc, &self.maps, inner)?;
         self.removed.stack().rebuild(&mut own);
