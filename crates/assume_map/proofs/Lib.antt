@@ -1,0 +1,4 @@
+mod Walked
+mod Reading
+mod Taking
+mod Gathering
