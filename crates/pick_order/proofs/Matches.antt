@@ -4,7 +4,7 @@ use Rattle.std.proofs.lemmas.Bool.{and_parts, and_from, or_left, or_right, or_ca
 use Rattle.std.proofs.lemmas.List.{get_or-set_same, get_or-set_other, get_or_past, get_or-drop, drop-set-add, length-drop}
 use Rattle.pick_order.specs.declared.preference.Candidate.{Candidate}
 use Rattle.pick_order.specs.declared.preference.Preference.{Preference}
-use Rattle.pick_order.specs.Preferences.{candidate_of, candidate_in, half_candidate}
+use Rattle.pick_order.specs.Preferences.{candidate_of, candidate_in, rescaled_candidate}
 use Rattle.pick_order.specs.Candidates.{comes_first, first_of, is_ahead}
 use Rattle.pick_order.specs.Tournaments.{entrant, IsFirst, IsPlayed, IsPlayedAt, IsPlayedBut}
 
@@ -190,17 +190,17 @@ none_first places now count sized z e =
       ahead = λ k. let n : entrant now k ≡ None = get_or_past now k None (omega (arith, entrants_count places now count sized e)) in rw n refl;
     }
 
--- all activities are half of what they were
-pub halved_view : (places new now : List (Option Candidate)) (count : ℕ) → length places ≡ count + count → length new ≡ count + count → drop count places ≡ now
-    → ((k : ℕ) → k < count → entrant new (count + k) ≡ option_map half_candidate (entrant places (count + k))) → (k : ℕ) → entrant (drop count new) k ≡ option_map half_candidate (entrant now k)
-halved_view places new now count sized sized' e h k =
+-- all activities are rescaled
+pub rescaled_view : (places new now : List (Option Candidate)) (count : ℕ) → length places ≡ count + count → length new ≡ count + count → drop count places ≡ now
+    → ((k : ℕ) → k < count → entrant new (count + k) ≡ option_map rescaled_candidate (entrant places (count + k))) → (k : ℕ) → entrant (drop count new) k ≡ option_map rescaled_candidate (entrant now k)
+rescaled_view places new now count sized sized' e h k =
     ⊎_elim
     (λ (s : k < count).
     get_or-drop count new k None
-    ∙ (h k s ∙ ap (option_map half_candidate) (sym (get_or-drop count places k None) ∙ ap (λ (z : List (Option Candidate)). entrant z k) e)))
+    ∙ (h k s ∙ ap (option_map rescaled_candidate) (sym (get_or-drop count places k None) ∙ ap (λ (z : List (Option Candidate)). entrant z k) e)))
     (λ (s : count ≤ k).
     get_or_past (drop count new) k None (omega (arith, length-drop count new))
-    ∙ ap (option_map half_candidate) (sym (get_or_past now k None (omega (arith, entrants_count places now count sized e))))) (cases_lt k count)
+    ∙ ap (option_map rescaled_candidate) (sym (get_or_past now k None (omega (arith, entrants_count places now count sized e))))) (cases_lt k count)
 
 -- all variables that have a preference are entrants
 pub entered_view : (places : List (Option Candidate)) (order : List (Option Preference)) → length places ≡ length order + length order

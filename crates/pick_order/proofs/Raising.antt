@@ -1,12 +1,12 @@
--- Activities that are raised and halved.
-use Rattle.std.proofs.Common.{◌≡◌, ◌<◌, ◌+◌, ◌/◌, ◌^◌, ℕ, suc, zero, Bool, true, false, cond, List, [], ◌∷◌, length, map, Option, Some, None, option_map, unwrap_or, refl, sym, ap, ◌∙◌, ⊎_elim, inl, inr, arith}
+-- Activities that are raised and rescaled.
+use Rattle.std.proofs.Common.{◌≡◌, ◌<◌, ◌+◌, ◌^◌, ℕ, suc, zero, Bool, true, false, cond, List, [], ◌∷◌, length, map, Option, Some, None, option_map, unwrap_or, refl, sym, ap, ◌∙◌, ⊎_elim, inl, inr, arith}
 use Rattle.std.proofs.lemmas.Bool.{lt-leb}
 use Rattle.std.proofs.lemmas.List.{ext_get_or, length-map}
 use Rattle.std.specs.Option.{is_some}
 use Rattle.pick_order.specs.declared.preference.Preference.{Preference}
 use Rattle.pick_order.specs.declared.preference.Candidate.{Candidate}
 use Rattle.pick_order.specs.Tournaments.{entrant}
-use Rattle.pick_order.specs.Preferences.{preference_in, candidate_of, candidate_in, activity_in, fits_in, half_preference, raised, bumped}
+use Rattle.pick_order.specs.Preferences.{preference_in, candidate_of, candidate_in, activity_in, fits_in, rescaled_preference, rescaled_increment, raised, bumped}
 use Rattle.pick_order.specs.Queues.{IsQueued, IsCarried}
 use Rattle.pick_order.specs.Laws.{mapped_some}
 
@@ -15,17 +15,17 @@ pub no_room : (order : List (Option Preference)) (v by : ℕ) (p : Preference) �
 no_room order v by p e l = lt-leb _ _ (let a : activity_in order v ≡ p.activity = ap (λ (o : Option Preference). unwrap_or (option_map (λ (q : Preference). q.activity) o) 0) e in omega arith)
 
 -- where it does not fit, what is chosen is the other
-pub halved_order : (order new : List (Option Preference)) (b : Bool) → b ≡ false → length new ≡ length order → ((v : ℕ) → preference_in new v ≡ option_map half_preference (preference_in order v))
-    → new ≡ cond b order (map (option_map half_preference) order)
-halved_order order new b e n h = rw e (ext_get_or None new (map (option_map half_preference) order) (n ∙ sym (length-map order (option_map half_preference))) (λ v l. h v ∙ halved_at order v))
+pub rescaled_order : (order new : List (Option Preference)) (b : Bool) → b ≡ false → length new ≡ length order → ((v : ℕ) → preference_in new v ≡ option_map rescaled_preference (preference_in order v))
+    → new ≡ cond b order (map (option_map rescaled_preference) order)
+rescaled_order order new b e n h = rw e (ext_get_or None new (map (option_map rescaled_preference) order) (n ∙ sym (length-map order (option_map rescaled_preference))) (λ v l. h v ∙ rescaled_at order v))
   where
-    halved_at : (xs : List (Option Preference)) (v : ℕ) → option_map half_preference (preference_in xs v) ≡ preference_in (map (option_map half_preference) xs) v
-    halved_at [] v = refl
-    halved_at (x ∷ xs) zero = refl
-    halved_at (x ∷ xs) (suc v) = halved_at xs v
+    rescaled_at : (xs : List (Option Preference)) (v : ℕ) → option_map rescaled_preference (preference_in xs v) ≡ preference_in (map (option_map rescaled_preference) xs) v
+    rescaled_at [] v = refl
+    rescaled_at (x ∷ xs) zero = refl
+    rescaled_at (x ∷ xs) (suc v) = rescaled_at xs v
 
 -- a bump is a raise once there is room
-pub bumped_is : (order new : List (Option Preference)) (v by more : ℕ) (b : Bool) → fits_in order v by ≡ b → more ≡ cond b by (by / 2) → new ≡ cond b order (map (option_map half_preference) order) → raised v more new ≡ bumped v by order
+pub bumped_is : (order new : List (Option Preference)) (v by more : ℕ) (b : Bool) → fits_in order v by ≡ b → more ≡ cond b by (rescaled_increment by) → new ≡ cond b order (map (option_map rescaled_preference) order) → raised v more new ≡ bumped v by order
 bumped_is order new v by more true e m n = rw (e, m, n) refl
 bumped_is order new v by more false e m n = rw (e, m, n) refl
 

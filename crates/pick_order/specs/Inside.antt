@@ -14,5 +14,5 @@ pub record IsOrdered (o : Inside) : Type 0 where
   pub queued : IsQueued o.preferences.items o.tournament
   pub numbers : length o.preferences.items ≤ 2 ^ 32
   pub limit : IsLimited o.preferences.items
-  pub grows : 4096 ≤ o.increment
+  pub grows : 1024 ≤ o.increment
   pub within : o.increment ≤ 2 ^ 62

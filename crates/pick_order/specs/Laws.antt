@@ -1,8 +1,8 @@
 -- Facts on the order of decisions that every crate above may cite.
-use Rattle.std.proofs.Common.{◌≡◌, ℕ, zero, suc, ◌+◌, ◌/◌, ◌^◌, Bool, true, false, cond, leb, List, [], ◌∷◌, map, get_or, set, Option, Some, None, option_map, refl, ◌∙◌}
+use Rattle.std.proofs.Common.{◌≡◌, ℕ, zero, suc, ◌+◌, ◌^◌, Bool, true, false, cond, leb, List, [], ◌∷◌, map, get_or, set, Option, Some, None, option_map, refl, ◌∙◌}
 use Rattle.std.specs.Option.{is_some}
 use Rattle.pick_order.specs.declared.preference.Preference.{Preference}
-use Rattle.pick_order.specs.Preferences.{preference_in, raised, bumped, with_phase, half_preference, activity_in}
+use Rattle.pick_order.specs.Preferences.{preference_in, raised, bumped, with_phase, rescaled_preference, activity_in, rescaled_increment}
 
 pub mapped_some : {X Y : Type 0} (f : X → Y) (o : Option X) → is_some (option_map f o) ≡ is_some o
 mapped_some f None = refl
@@ -34,6 +34,6 @@ raised_active v by known w = changed (λ (p : Preference). record p { activity =
 pub bumped_active : (v by : ℕ) (known : List (Option Preference)) (w : ℕ) → is_some (preference_in (bumped v by known) w) ≡ is_some (preference_in known w)
 bumped_active v by known w = go (leb (activity_in known v + by) (2 ^ 62))
   where
-    go : (b : Bool) → is_some (preference_in (cond b (raised v by known) (raised v (by / 2) (map (option_map half_preference) known))) w) ≡ is_some (preference_in known w)
+    go : (b : Bool) → is_some (preference_in (cond b (raised v by known) (raised v (rescaled_increment by) (map (option_map rescaled_preference) known))) w) ≡ is_some (preference_in known w)
     go true = raised_active v by known w
-    go false = raised_active v (by / 2) (map (option_map half_preference) known) w ∙ all_changed half_preference known w
+    go false = raised_active v (rescaled_increment by) (map (option_map rescaled_preference) known) w ∙ all_changed rescaled_preference known w

@@ -1,12 +1,12 @@
 -- What contracts see of the order of decisions.
-use Rattle.std.specs.Prelude.{◌≡◌, ℕ, ◌+◌, ◌/◌, ◌^◌, max, min, Bool, true, not, ◌&&◌, if◌then◌else◌, List, Option}
+use Rattle.std.specs.Prelude.{◌≡◌, ℕ, ◌+◌, ◌/◌, ◌^◌, min, Bool, true, not, ◌&&◌, if◌then◌else◌, List, Option}
 use Rattle.std.specs.Option.{is_some}
 use Rattle.trail.specs.declared.trail.Step.{Step}
 use Rattle.trail.specs.Trail.{set_in}
 use Rattle.pick_order.specs.declared.preference.Preference.{Preference}
 use Rattle.pick_order.specs.declared.preference.Candidate.{Candidate}
 use Rattle.pick_order.specs.Tournaments.{entrant}
-use Rattle.pick_order.specs.Preferences.{preference_in, fits_in}
+use Rattle.pick_order.specs.Preferences.{preference_in, fits_in, rescaled_increment}
 
 -- what is known of each variable that is active, those of them that are candidates for the next decision, both by number, and what the next bump adds to an activity
 pub record Order : Type 0 where
@@ -26,10 +26,10 @@ HasPassedSet order steps = (v : ℕ) → is_passed order v ≡ true → set_in s
 abbrev pub HasSamePassed : Order → Order → Type 0
 HasSamePassed old new = (v : ℕ) → is_passed new v ≡ is_passed old v
 
--- an increment, halved where the activity of a variable would pass 2 ^ 62 by it
+-- an increment, rescaled where the activity of a variable would pass 2 ^ 62 by it
 abbrev pub fitting : List (Option Preference) → ℕ → ℕ → ℕ
-fitting known v by = if fits_in known v by then by else by / 2
+fitting known v by = if fits_in known v by then by else rescaled_increment by
 
--- the increment after a bump: a part in 4096 more, from 4096 to 2 ^ 62
+-- the increment after a conflict: a part in 16 more, up to 2 ^ 62
 abbrev pub grown_increment : ℕ → ℕ
-grown_increment by = max 4096 (min (by + by / 4096) (2 ^ 62))
+grown_increment by = min (by + by / 16) (2 ^ 62)

@@ -1,5 +1,5 @@
 -- What is known of each variable that is active, by its number.
-use Rattle.std.specs.Prelude.{◌≡◌, ◌==◌, ℕ, ◌+◌, ◌/◌, ◌^◌, ◌≤◌, nat_le, Bool, true, false, not, if◌then◌else◌, List, map, slice_set, slice_index_or, Option, Some, None, option_map, unwrap_or}
+use Rattle.std.specs.Prelude.{◌≡◌, ◌==◌, ℕ, ◌+◌, ◌/◌, ◌^◌, ◌≤◌, nat_le, max, Bool, true, false, not, if◌then◌else◌, List, map, slice_set, slice_index_or, Option, Some, None, option_map, unwrap_or}
 use Rattle.std.specs.List.{list_any}
 use Rattle.sat_lits.specs.declared.literal.Inner.{Inner}
 use Rattle.sat_lits.specs.declared.literal.InLit.{InLit}
@@ -49,13 +49,21 @@ activity_in order v = unwrap_or (option_map (λ p. p.activity) (preference_in or
 abbrev pub IsLimited : List (Option Preference) → Type 0
 IsLimited order = (v : ℕ) (p : Preference) → preference_in order v ≡ Some p → p.activity ≤ 2 ^ 62
 
--- a preference with half the activity, rounded down
-abbrev pub half_preference : Preference → Preference
-half_preference p = record p { activity = p.activity / 2 }
+-- an activity that is halved 32 times, each time rounded down
+abbrev pub rescaled : ℕ → ℕ
+rescaled activity = activity / 2 ^ 32
+
+-- a preference with its activity rescaled
+abbrev pub rescaled_preference : Preference → Preference
+rescaled_preference p = record p { activity = rescaled p.activity }
 
 -- the same of a candidate
-abbrev pub half_candidate : Candidate → Candidate
-half_candidate a = record a { activity = a.activity / 2 }
+abbrev pub rescaled_candidate : Candidate → Candidate
+rescaled_candidate a = record a { activity = rescaled a.activity }
+
+-- an increment that is rescaled, and no less than 1024
+abbrev pub rescaled_increment : ℕ → ℕ
+rescaled_increment by = max 1024 (rescaled by)
 
 -- the activity of a variable is greater by a number
 abbrev pub raised : ℕ → ℕ → List (Option Preference) → List (Option Preference)
@@ -65,6 +73,6 @@ raised v by order = slice_set order v (option_map (λ (p : Preference). record p
 abbrev pub fits_in : List (Option Preference) → ℕ → ℕ → Bool
 fits_in order v by = nat_le (activity_in order v + by) (2 ^ 62)
 
--- a variable is raised; where it would pass 2 ^ 62, all activities are halved first, and the increment with them
+-- a variable is raised; where it would pass 2 ^ 62, all activities are rescaled first, and the increment with them
 abbrev pub bumped : ℕ → ℕ → List (Option Preference) → List (Option Preference)
-bumped v by order = if fits_in order v by then raised v by order else raised v (by / 2) (map (option_map half_preference) order)
+bumped v by order = if fits_in order v by then raised v by order else raised v (rescaled_increment by) (map (option_map rescaled_preference) order)

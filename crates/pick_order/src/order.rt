@@ -2,11 +2,11 @@ ghost use Rattle.std.specs.Prelude.{◌≡◌, ◌↔◌, ◌==◌, ℕ, ◌+◌
 ghost use Rattle.std.specs.List.{list_all};
 ghost use Rattle.trail.specs.Trail.{set_in};
 ghost use Rattle.pick_order.specs.Tournaments.{IsFirst, entrant};
-ghost use Rattle.pick_order.specs.Preferences.{IsPick, AllSet, IsLimited, activity_in, fits_in, preference_in, candidate_in, prepared, raised, bumped, with_phase, half_preference};
+ghost use Rattle.pick_order.specs.Preferences.{IsPick, AllSet, IsLimited, activity_in, fits_in, preference_in, candidate_in, prepared, raised, bumped, with_phase, rescaled_preference};
 ghost use Rattle.pick_order.specs.Orders.{HasPassedSet, HasSamePassed, is_passed, fitting, grown_increment};
 ghost use Rattle.pick_order.specs.Queues.{IsCarried, IsPlaced, HasLostSet};
 
-use crate::preference::{Candidate, Preference};
+use crate::preference::{Candidate, Preference, SCALE};
 use crate::tournament::Tournament;
 use sat_lits::{InLit, Inner, NoMemory};
 use std::alloc::Global;
@@ -19,8 +19,12 @@ mod tests;
 /// The greatest activity.
 const LIMIT: u64 = 1 << 62;
 
-/// The least increment. Each bump raises the increment by one in so many.
-const GROWTH: u64 = 4096;
+/// The least increment.
+const LEAST: u64 = 1 << 10;
+
+/// A conflict raises the increment by one part in so many. (In floating point an increment that is
+/// divided by 0.95 after each conflict is usual: Eén and Sörensson, 2003.)
+const GROWTH: u64 = 16;
 
 /// The active variables, each with an activity and a phase, in the order in which they are decided.
 /// Those that a decision passed over as set are no candidates until they are put back.
@@ -49,12 +53,12 @@ impl Model for PickOrder {
 impl PickOrder {
     /// An order with no active variable. It takes no memory.
     pub fn new(alloc: Global) -> PickOrder
-        ensures { result ≡ record { known = []; candidates = []; increment = 4096 } }
+        ensures { result ≡ record { known = []; candidates = []; increment = 1024 } }
     {
         PickOrder {
             preferences: Vec::new(alloc),
             tournament: Tournament::new(alloc),
-            increment: GROWTH,
+            increment: LEAST,
         }
     }
 
@@ -152,14 +156,15 @@ impl PickOrder {
     }
 
     /// Raises the activity of an active variable by the increment, and no other. Where it would
-    /// pass 2^62, all activities and the increment are halved first, rounded down. The increment
-    /// grows by a part in 4096.
+    /// pass 2^62, all activities and the increment are halved 32 times first, rounded down, but the
+    /// increment stays 1024 or more. So a walk over all variables is rare where the increment grows
+    /// by `grow_increment` alone.
     pub fn bump(&mut self, var: Inner)
         requires { IsSome (preference_in self.old.known var.0) }
         ensures known { self.new.known ≡ bumped var.0 self.old.increment self.old.known }
         ensures passed { HasSamePassed self.old self.new }
-        ensures increment { self.new.increment ≡ grown_increment (fitting self.old.known var.0 self.old.increment) }
-        ensures least { 4096 ≤ self.old.increment }
+        ensures increment { self.new.increment ≡ fitting self.old.known var.0 self.old.increment }
+        ensures least { 1024 ≤ self.old.increment }
     {
         let by = make_room(
             &mut self.preferences,
@@ -168,7 +173,15 @@ impl PickOrder {
             self.increment,
         );
         raise(&mut self.preferences, &mut self.tournament, var, by);
-        self.increment = (by + by / GROWTH).clamp(GROWTH, LIMIT);
+        self.increment = by;
+    }
+
+    /// Raises the increment by a part in 16, up to 2^62, so that variables that are bumped later
+    /// come before those that were bumped as often earlier. This is for the end of each conflict.
+    pub fn grow_increment(&mut self)
+        ensures { self.new ≡ record self.old { increment = grown_increment self.old.increment } }
+    {
+        self.increment = (self.increment + self.increment / GROWTH).min(LIMIT);
     }
 
     /// The phase of an active variable becomes the sign of a literal.
@@ -271,7 +284,7 @@ fn pass_over(tournament: &mut Tournament, trail: &Trail) -> Option<Candidate>
     None
 }
 
-/// Where the activity of a variable would pass the limit, halves all activities and the increment.
+/// Where the activity of a variable would pass the limit, rescales all activities and the increment.
 /// Gives the increment that fits then.
 fn make_room(
     preferences: &mut [Option<Preference>],
@@ -281,29 +294,31 @@ fn make_room(
 ) -> u64
     requires active { IsSome (preference_in preferences.old var.0) }
     requires limit { IsLimited preferences.old }
+    requires least { 1024 ≤ increment }
     requires within { increment ≤ 2 ^ 62 }
     ensures value { result ≡ fitting preferences.old var.0 increment }
-    ensures order { preferences.new ≡ (if fits_in preferences.old var.0 increment then preferences.old else map (option_map half_preference) preferences.old) }
+    ensures order { preferences.new ≡ (if fits_in preferences.old var.0 increment then preferences.old else map (option_map rescaled_preference) preferences.old) }
     ensures carried { IsCarried preferences.old tournament.old preferences.new tournament.new }
     ensures limit { IsLimited preferences.new }
     ensures room { activity_in preferences.new var.0 + result ≤ 2 ^ 62 }
+    ensures least { 1024 ≤ result }
 {
     let activity = preferences[var.0 as usize].unwrap().activity;
     if activity + increment <= LIMIT {
         return increment;
     }
-    halve_all(preferences);
-    tournament.halve();
-    increment / 2
+    rescale_all(preferences);
+    tournament.rescale();
+    (increment / SCALE).max(LEAST)
 }
 
-/// Halves all activities.
-fn halve_all(preferences: &mut [Option<Preference>])
-    ensures { (v : ℕ) → preference_in preferences.new v ≡ option_map half_preference (preference_in preferences.old v) }
+/// Rescales all activities.
+fn rescale_all(preferences: &mut [Option<Preference>])
+    ensures { (v : ℕ) → preference_in preferences.new v ≡ option_map rescaled_preference (preference_in preferences.old v) }
 {
     for preference in preferences.iter_mut() {
         if let Some(p) = preference {
-            p.activity /= 2;
+            p.activity /= SCALE;
         }
     }
 }

@@ -3,6 +3,9 @@ ghost use Rattle.pick_order.specs.Candidates.{comes_first};
 
 use sat_lits::Inner;
 
+/// Activities that are rescaled are divided by this, which is to halve them 32 times.
+pub const SCALE: u64 = 1 << 32;
+
 /// What is known of an active variable: how early it is decided, and whether true is tried first.
 #[derive(Clone, Copy, Debug, PartialEq, Eq)]
 pub struct Preference {

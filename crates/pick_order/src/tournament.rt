@@ -1,9 +1,9 @@
 ghost use Rattle.std.specs.Prelude.{◌≡◌, ℕ, ◌+◌, ◌*◌, ◌^◌, ◌<◌, ◌≤◌, [], length, drop, IfOk, slice_set, option_map};
 ghost use Rattle.pick_order.specs.Candidates.{first_of};
 ghost use Rattle.pick_order.specs.Tournaments.{IsFirst, IsPlayed, IsPlayedBut, entrant};
-ghost use Rattle.pick_order.specs.Preferences.{candidate_in, half_candidate};
+ghost use Rattle.pick_order.specs.Preferences.{candidate_in, rescaled_candidate};
 
-use crate::preference::{Candidate, Preference};
+use crate::preference::{Candidate, Preference, SCALE};
 use sat_lits::{Inner, NoMemory};
 use std::alloc::Global;
 use std::marker::Model;
@@ -84,12 +84,12 @@ impl Tournament {
         }
     }
 
-    /// Halves all activities.
-    pub fn halve(&mut self)
+    /// Rescales all activities.
+    pub fn rescale(&mut self)
         ensures len { length self.new ≡ length self.old }
-        ensures halved { (k : ℕ) → entrant self.new k ≡ option_map half_candidate (entrant self.old k) }
+        ensures rescaled { (k : ℕ) → entrant self.new k ≡ option_map rescaled_candidate (entrant self.old k) }
     {
-        halve_all(&mut self.places, self.count);
+        rescale_all(&mut self.places, self.count);
     }
 }
 
@@ -152,16 +152,16 @@ fn play_up(places: &mut [Option<Candidate>], count: usize, from: usize)
     }
 }
 
-/// Halves the activities of the entrants, and plays all matches anew.
-fn halve_all(places: &mut [Option<Candidate>], count: usize)
+/// Rescales the activities of the entrants, and plays all matches anew.
+fn rescale_all(places: &mut [Option<Candidate>], count: usize)
     requires { length places.old ≡ count + count }
     ensures played { IsPlayed places.new count }
-    ensures halved { (k : ℕ) → k < count → entrant places.new (count + k) ≡ option_map half_candidate (entrant places.old (count + k)) }
+    ensures rescaled { (k : ℕ) → k < count → entrant places.new (count + k) ≡ option_map rescaled_candidate (entrant places.old (count + k)) }
 {
     for k in 0..count {
         if let Some(candidate) = places[count + k] {
             places[count + k] = Some(Candidate {
-                activity: candidate.activity / 2,
+                activity: candidate.activity / SCALE,
                 var: candidate.var,
             });
         }

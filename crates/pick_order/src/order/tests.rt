@@ -38,6 +38,10 @@ fn keep_phase(rt: &impl Abort, order: &mut PickOrder, lit: InLit) {
     order.keep_phase(lit);
 }
 
+fn activity_of(order: &PickOrder, var: u32) -> Option<u64> {
+    Some(order.preference_of(Inner(var))?.activity)
+}
+
 /// Whether a trail sets every variable that an order passed over.
 fn sets_passed(order: &PickOrder, trail: &Trail) -> bool
     ensures { IsTrue result → HasPassedSet order.now trail.now.steps }
@@ -149,23 +153,35 @@ fn what_is_known_outlives_prepare(rt: HostRuntime) -> Result<(), Fail> {
 }
 
 #[test]
+fn a_later_bump_counts_more(rt: HostRuntime) -> Result<(), Fail> {
+    let mut order = PickOrder::new(rt.alloc());
+    order.prepare(&[Inner(0), Inner(1)], false)?;
+    bump(&rt, &mut order, 0);
+    bump(&rt, &mut order, 1);
+    assert_eq!(rt; activity_of(&order, 0), Some(1024));
+    order.grow_increment();
+    bump(&rt, &mut order, 1);
+    assert_eq!(rt; activity_of(&order, 0), Some(1024));
+    assert_eq!(rt; activity_of(&order, 1), Some(1024 + 1088));
+    Ok(())
+}
+
+#[test]
 fn activities_are_halved_at_the_limit(rt: HostRuntime) -> Result<(), Fail> {
     let mut order = PickOrder::new(rt.alloc());
     order.prepare(&[Inner(0), Inner(1)], false)?;
     bump(&rt, &mut order, 1);
-    let mut last = 0;
+    let mut last = Some(0);
     let mut halved = false;
-    for _bump in 0..200_000_u32 {
+    for _conflict in 0..2000_u32 {
         bump(&rt, &mut order, 0);
-        let activity = order.preference_of(Inner(0)).ok_or("not active")?.activity;
-        assert!(rt; activity <= 1 << 62);
+        order.grow_increment();
+        let activity = activity_of(&order, 0);
+        assert!(rt; activity <= Some(1 << 62));
         halved = halved || activity < last;
         last = activity;
     }
     assert!(rt; halved);
-    assert_eq!(rt;
-        order.preference_of(Inner(1)).ok_or("not active")?.activity,
-        0
-    );
+    assert_eq!(rt; activity_of(&order, 1), Some(0));
     Ok(())
 }

@@ -1,8 +1,8 @@
 use Rattle.pick_order.specs.Preferences.{fits_in}
-use Rattle.pick_order.proofs.Raising.{no_room, halved_order}
+use Rattle.pick_order.proofs.Raising.{no_room, rescaled_order}
 use Rattle.pick_order.proofs.order.make_room.Goals as goal
 
 pub returns-clause-order : goal.returns-clause-order
 returns-clause-order c =
-    halved_order c.args.preferences.now c.halve_all.new.preferences (fits_in c.args.preferences.now c.args.var.0 c.args.increment)
-    (no_room c.args.preferences.now c.args.var.0 c.args.increment c.unwrap-activity.result c.unwrap-activity.ensures c.if-activity-increment-le-LIMIT.false) c.halve_all.auto.preferences c.halve_all.ensures
+    rescaled_order c.args.preferences.now c.rescale_all.new.preferences (fits_in c.args.preferences.now c.args.var.0 c.args.increment)
+    (no_room c.args.preferences.now c.args.var.0 c.args.increment c.unwrap-activity.result c.unwrap-activity.ensures c.if-activity-increment-le-LIMIT.false) c.rescale_all.auto.preferences c.rescale_all.ensures

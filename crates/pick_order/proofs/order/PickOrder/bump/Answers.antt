@@ -41,8 +41,8 @@ invariant_of-self c =
       queued = subst (λ (z : List (Option Preference)). IsQueued z c.raise.new.tournament) (sym (kept d)) (queued_carried _ _ c.raise.new.preferences c.raise.new.tournament c.self.invariant.queued (carried d));
       numbers = omega (arith, ap length (kept d), (carried d).sized, c.self.invariant.numbers);
       limit = subst IsLimited (sym (kept d)) c.raise.ensures.limit;
-      grows = omega (arith, c.clamp-self-inside.ensures);
-      within = omega (arith, c.clamp-self-inside.ensures);
+      grows = omega (arith, c.make_room-by.ensures.least);
+      within = omega (arith, c.make_room-by.ensures.least);
     }
 
 pub returns-clause-known : goal.returns-clause-known
