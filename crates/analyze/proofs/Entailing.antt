@@ -2,7 +2,6 @@
 use Rattle.std.proofs.Common.{◌≡◌, ◌<◌, ◌≤◌, ℕ, Bool, true, false, cond, not, eqb, leb, ◌&&◌, ◌||◌, List, [], ◌∷◌, Option, Some, None, option_map, Result, Ok, Err, refl, sym, ap, ◌∙◌, ⊎_elim, arith, eq-eqb, ltb-true}
 use Rattle.std.proofs.lemmas.Bool.{and_parts, and_from, or_cases, eqb-true, leb-true, not-true, false≢true, both_ways}
 use Rattle.std.proofs.lemmas.Option.{same_Some, none-some}
-use Rattle.std.specs.Option.{is_some}
 use Rattle.std.specs.Result.{IfOk}
 use Rattle.std.specs.List.{list_all}
 use Rattle.sat_lits.specs.InLits.{same_lit, opposite}
@@ -14,7 +13,7 @@ use Rattle.sat_lits.specs.declared.literal.ClauseId.{ClauseId}
 use Rattle.trail.specs.declared.trail.Step.{Step}
 use Rattle.trail.specs.Trail.{level_of, shaped, shaped_step}
 use Rattle.trail.specs.Laws.{levels_low, level_up}
-use Rattle.clause_store.specs.Store.{Held, clause_at, is_live}
+use Rattle.clause_store.specs.Store.{Held, clause_at}
 use Rattle.propagate.specs.Reasons.{names, passes, has_reason, reasoned, lit_value, steps_value, held_value}
 use Rattle.propagate.specs.Laws.{reason_value}
 use Rattle.analyze.specs.Walks.{denied, covered}

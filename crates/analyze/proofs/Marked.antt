@@ -1,8 +1,9 @@
 -- What one mark does to a walk.
-use Rattle.std.proofs.Common.{◌≡◌, ◌<◌, ◌≤◌, ◌+◌, ◌-◌, ◌^◌, ℕ, suc, Bool, true, false, cond, not, eqb, ◌||◌, List, [], ◌∷◌, ◌++◌, length, take, get_or, Some, option_map, unwrap_or, refl, sym, ap, subst, ◌∙◌, ⊎_elim, arith, eq-eqb}
+use Rattle.std.proofs.Common.{◌≡◌, ◌<◌, ◌≤◌, ◌+◌, ◌-◌, ◌^◌, ℕ, suc, Bool, true, false, cond, not, eqb, ◌||◌, List, [], ◌∷◌, ◌++◌, length, take, get_or, Option, Some, None, option_map, unwrap_or, refl, sym, ap, subst, ◌∙◌, ⊎_elim, arith, eq-eqb}
 use Rattle.std.proofs.Math.Path.{fun_ext}
 use Rattle.std.proofs.lemmas.Bool.{and_parts, and_from, or_cases, or_left, or_right, eqb-true, false≢true, true≢false, both_ways, cases_lt, false_from_ne_true}
-use Rattle.std.proofs.lemmas.List.Folds.{list_any-append, list_all_more}
+use Rattle.std.proofs.lemmas.List.Folds.{list_any-append, list_all-append, list_all_more}
+use Rattle.std.specs.Option.{is_some}
 use Rattle.std.specs.List.{list_any, list_all}
 use Rattle.sat_lits.specs.InLits.{opposite}
 use Rattle.sat_lits.specs.ListLaws.{all_mono, all_at}
@@ -10,7 +11,7 @@ use Rattle.sat_lits.specs.declared.literal.InLit.{InLit}
 use Rattle.sat_lits.specs.declared.literal.Inner.{Inner}
 use Rattle.trail.specs.declared.trail.Step.{Step}
 use Rattle.trail.specs.Trail.{Assignment, IsKept, false_in, set_in, step_in, level_in, level_of, shaped}
-use Rattle.trail.specs.Laws.{steps_within, false_set}
+use Rattle.trail.specs.Laws.{steps_within, false_set, set_in-step_in}
 use Rattle.smallvec.specs.SmallVec.{SmallVec}
 use Rattle.analyze.specs.declared.walk.Walk.{Walk}
 use Rattle.analyze.specs.Marking.{Marking, is_marked, is_root, level_or}
@@ -69,17 +70,25 @@ one_covered t n seen l e s = and_from _ _ (implied_or _ _ (λ f. settled_covered
 pub marked_before : (trail : Assignment) (l : InLit) (walk : Walk) (marks : Marking) → IsWalkOn trail walk → marks ≡ walk.marks → (is_marked walk.marks l.var.0 || is_root trail.steps l.var.0) ≡ true → MarkedAll trail (l ∷ []) walk (record walk { marks = marks })
 marked_before trail l walk marks h m s =
     subst (λ (z : Marking). MarkedAll trail (l ∷ []) walk (record walk { marks = z })) (sym m)
-    (record { stands = record { kept = h.kept; room = h.room; level = h.level; left = h.left; tracks = h.tracks }; still = refl; grows = λ v e. e; covers = one_covered trail.steps walk.left (is_marked walk.marks) l h.kept.sound s })
+    (record { stands = record { kept = h.kept; room = h.room; level = h.level; left = h.left; met = h.met; tracks = h.tracks }; still = refl; grows = λ v e. e; covers = one_covered trail.steps walk.left (is_marked walk.marks) l h.kept.sound s })
 
 or_known : (a b : Bool) → (a || b) ≡ true → a ≡ false → b ≡ true
 or_known true b e f = absurd (true≢false f)
 or_known false b e f = e
 
+-- a variable that has a level is set
+level_is_set : (t : List Step) (v level : ℕ) → level_in t v ≡ Some level → set_in t v ≡ true
+level_is_set t v level e = set_in-step_in t v ∙ go (step_in t v) e
+  where
+    go : (o : Option Step) → option_map (λ (s : Step). s.level) o ≡ Some level → is_some o ≡ true
+    go None f = absurd (cc)
+    go (Some s) f = refl
+
 -- one more variable is marked, and the counts follow
-marked_now : (trail : Assignment) (l : InLit) (walk : Walk) (marks : Marking) (pending : ℕ) (others : SmallVec InLit) → IsWalkOn trail walk → marks ≡ record walk.marks { vars = walk.marks.vars ++ l.var ∷ [] }
+marked_now : (trail : Assignment) (l : InLit) (walk : Walk) (marks : Marking) (pending : ℕ) (others : SmallVec InLit) (level : ℕ) → IsWalkOn trail walk → level_in trail.steps l.var.0 ≡ Some level → marks ≡ record walk.marks { vars = walk.marks.vars ++ l.var ∷ [] }
     → Tracks (level_of trail.steps) trail.steps (with_mark (is_marked walk.marks) l.var.0) (rest_of walk.left trail.steps) pending others.items
     → MarkedAll trail (l ∷ []) walk (record walk { marks = marks; pending = pending; others = others })
-marked_now trail l walk marks pending others h m k =
+marked_now trail l walk marks pending others level h i m k =
     subst (λ (z : Marking). MarkedAll trail (l ∷ []) walk (record walk { marks = z; pending = pending; others = others })) (sym m)
     (record {
       stands =
@@ -88,6 +97,7 @@ marked_now trail l walk marks pending others h m k =
             room = h.room;
             level = h.level;
             left = h.left;
+            met = list_all-append (λ (v : Inner). set_in trail.steps v.0) walk.marks.vars (l.var ∷ []) ∙ and_from _ _ h.met (and_from _ _ (level_is_set trail.steps l.var.0 level i) refl);
             tracks = subst (λ (f : ℕ → Bool). Tracks (level_of trail.steps) trail.steps f (rest_of walk.left trail.steps) pending others.items) (sym e) k;
           };
       still = refl;
@@ -124,7 +134,7 @@ pub marked_present : (trail : Assignment) (l : InLit) (walk : Walk) (marks : Mar
     → is_marked walk.marks l.var.0 ≡ false → level_in trail.steps l.var.0 ≡ Some level → level ≡ walk.level → MarkedAll trail (l ∷ []) walk (record walk { marks = marks; pending = walk.pending + 1 })
 marked_present trail l walk marks level h k m n i e =
     let p : suc walk.pending ≡ walk.pending + 1 = omega arith in
-    marked_now trail l walk marks (walk.pending + 1) walk.others h m
+    marked_now trail l walk marks (walk.pending + 1) walk.others level h i m
     (subst (λ (z : ℕ). Tracks (level_of trail.steps) trail.steps (with_mark (is_marked walk.marks) l.var.0) (rest_of walk.left trail.steps) z walk.others.items) p (present_tracks trail l walk level h k n i e))
 
 -- a mark below it
@@ -134,7 +144,7 @@ marked_lower trail l walk marks others level h k m n i e o =
     let u : level ≤ level_of trail.steps = level_top trail.steps l.var.0 level h.kept.sound i in
     let w : walk.level ≡ level_of trail.steps = h.level in
     let d : level < level_of trail.steps = ⊎_elim (λ (a : level < level_of trail.steps). a) (λ (a : level_of trail.steps ≤ level). absurd (e (omega arith))) (cases_lt level (level_of trail.steps)) in
-    marked_now trail l walk marks walk.pending others h m
+    marked_now trail l walk marks walk.pending others level h i m
     (subst (λ (z : List InLit). Tracks (level_of trail.steps) trail.steps (with_mark (is_marked walk.marks) l.var.0) (rest_of walk.left trail.steps) walk.pending z) (sym o)
     (mark_under (level_of trail.steps) level trail.steps (take (length trail.steps - walk.left) trail.steps) (rest_of walk.left trail.steps) (is_marked walk.marks) walk.pending walk.others.items l (rest_parts trail.steps walk.left) h.kept.sound
     i d (or_known _ _ k n) n h.tracks))

@@ -17,6 +17,7 @@ use Rattle.propagate.specs.Reasons.{names, has_reason, reasoned}
 use Rattle.analyze.specs.declared.walk.Walk.{Walk}
 use Rattle.analyze.specs.Falsity.{false_at, has_present}
 use Rattle.analyze.specs.Marking.{is_marked, IsFresh}
+use Rattle.analyze.specs.Met.{are_set}
 use Rattle.analyze.specs.Walks.{covered, marked, rest_of, Tracks, Denies, IsWalkOn, IsStart, MarkedAll, AtWalk, IsTaken, AtEnd, may_mark}
 use Rattle.analyze.specs.FalsityLaws.{only_level}
 use Rattle.analyze.proofs.Entailing.{lits_at, names_lits, read_value, roots, conflict_denied, pass_denied, resolve_denied}
@@ -34,6 +35,7 @@ start_stands trail walk k f l n p o =
             room = f.enough;
             level = l;
             left = omega arith;
+            met = ap (are_set trail.steps) f.none;
             tracks =
                 subst (λ (z : ℕ → Bool). Tracks (level_of trail.steps) trail.steps z (rest_of walk.left trail.steps) walk.pending walk.others.items) (sym unmarked)
                 (subst (λ (z : List InLit). Tracks (level_of trail.steps) trail.steps (λ v. false) (rest_of walk.left trail.steps) walk.pending z) (sym o)
@@ -141,6 +143,7 @@ head_passed held trail walk left s h f o =
             room = h.stands.room;
             level = h.stands.level;
             left = let i : left < length trail.steps = h.inside in omega arith;
+            met = h.stands.met;
             tracks = pass_tracks (level_of trail.steps) trail.steps (rest_of left trail.steps) s (is_marked walk.marks) walk.pending walk.others.items f h.tracks;
           };
       denies = λ w v. pass_denied (is_marked walk.marks) w s (rest_of left trail.steps) f (h.denies w v);
@@ -154,6 +157,7 @@ head_stands held trail walk left less s h f e =
       room = h.stands.room;
       level = h.stands.level;
       left = let i : left < length trail.steps = h.inside in omega arith;
+      met = h.stands.met;
       tracks =
           take_tracks (level_of trail.steps) trail.steps (rest_of left trail.steps) s (is_marked walk.marks) less walk.others.items f h.level
           (subst (λ (z : ℕ). Tracks (level_of trail.steps) trail.steps (is_marked walk.marks) (s ∷ rest_of left trail.steps) z walk.others.items) e h.tracks);
@@ -192,6 +196,7 @@ head_end held trail walk left s l h i f e o =
       stands = a;
       above = o;
       first_false = h.parts.found (λ q. opposite q.lit (record { var = l.var; negative = not l.negative }) && eqb q.level (level_of trail.steps)) (or_left _ _ (and_from _ _ n (eq-eqb _ _ h.level)));
+      first_met = f;
       follows =
           end_follows held (level_of trail.steps) trail.steps (rest_of left trail.steps) s (is_marked walk.marks) (record { var = l.var; negative = not l.negative }) walk.others.items
           (λ p q. (and_parts (p s) (list_all p (rest_of left trail.steps)) (h.parts.within p q)).1) n h.denies a.tracks;

@@ -19,6 +19,7 @@ use Rattle.analyze.specs.declared.walk.Walk.{Walk}
 use Rattle.analyze.specs.Falsity.{false_at, false_by, false_under}
 use Rattle.analyze.specs.LearnedClauses.{ClauseFollows, IsLearned, has_each_once}
 use Rattle.analyze.specs.Marking.{is_marked, is_root, level_or, IsGreatest}
+use Rattle.analyze.specs.Met.{lits_met}
 use Rattle.analyze.specs.Walks.{AtEnd, is_marked_or_root, leaves_marked_or_root, is_implied}
 use Rattle.analyze.specs.FalsityLaws.{only_level}
 use Rattle.analyze.proofs.Entailing.{same_lit_value, opposite_value, roots}
@@ -245,6 +246,15 @@ learned held trail walk first lits kept back r x e p g =
           absurd (omega arith))))))
           (subst (λ (z : List InLit). has_each_once z ≡ true) (sym e) (once_filter (λ l. not (is_implied held trail.steps (is_marked walk.marks) l)) walk.others.items x.stands.tracks.once)));
     }
+
+-- and the variables of that clause are marked
+pub learned_met : (held : List Held) (trail : Assignment) (walk : Walk) (first : InLit) (lits kept : List InLit) → AtEnd held trail walk first
+    → kept ≡ filter (λ l. not (is_implied held trail.steps (is_marked walk.marks) l)) walk.others.items → lits ≡ first ∷ kept → lits_met walk.marks.vars lits ≡ true
+learned_met held trail walk first lits kept x e p =
+    subst (λ (z : List InLit). lits_met walk.marks.vars z ≡ true) (sym p)
+    (and_from _ _ x.first_met
+    (subst (λ (z : List InLit). lits_met walk.marks.vars z ≡ true) (sym e)
+    (all_filter (λ (l : InLit). is_marked walk.marks l.var.0) (λ (l : InLit). not (is_implied held trail.steps (is_marked walk.marks) l)) (λ (l : InLit). is_marked walk.marks l.var.0) (λ l a b. a) walk.others.items x.stands.tracks.seen_too)))
 
 -- no literal has level 0 as the greatest
 pub greatest_none : (t : List Step) → IsGreatest t [] 0

@@ -1,17 +1,13 @@
 -- Facts on literals that are false by a level, and on the way back, that every crate above may cite.
-use Rattle.std.proofs.Common.{◌≡◌, ◌<◌, ◌≤◌, ℕ, Bool, true, false, cond, not, eqb, leb, ◌&&◌, ◌||◌, List, [], ◌∷◌, ◌++◌, Option, Some, None, refl, sym, subst, ⊎_elim, arith, eq-eqb}
-use Rattle.std.proofs.lemmas.Bool.{and_parts, and_from, or_cases, eqb-true, leb-true, false≢true, not-true, both_ways, false_from_ne_true, cases_lt}
+use Rattle.std.proofs.Common.{◌≡◌, ◌<◌, ◌≤◌, ℕ, true, false, not, eqb, leb, ◌&&◌, ◌||◌, List, ⊎_elim, arith, eq-eqb}
+use Rattle.std.proofs.lemmas.Bool.{and_parts, or_cases, eqb-true, leb-true, not-true, both_ways, false_from_ne_true}
 use Rattle.std.specs.List.{list_all}
 use Rattle.sat_lits.specs.InLits.{opposite}
 use Rattle.sat_lits.specs.ListLaws.{all_or_any, any_mono, any_filter}
 use Rattle.sat_lits.specs.declared.literal.InLit.{InLit}
-use Rattle.sat_lits.specs.declared.literal.ClauseId.{ClauseId}
 use Rattle.trail.specs.declared.trail.Step.{Step}
-use Rattle.trail.specs.Trail.{false_in, set_in, shaped, shaped_step, back_to}
-use Rattle.trail.specs.Laws.{opposite_var, only_one, filter_any, back_nowhere, back_past}
-use Rattle.clause_store.specs.Store.{Held, clause_at}
-use Rattle.propagate.specs.Units.{gives}
-use Rattle.propagate.specs.Reasons.{names, passes, has_reason, reasoned}
+use Rattle.trail.specs.Trail.{false_in, set_in, shaped, back_to}
+use Rattle.trail.specs.Laws.{opposite_var, only_one, filter_any}
 use Rattle.analyze.specs.Falsity.{false_at, false_by}
 
 -- a literal that is false by a level is false

@@ -4,7 +4,9 @@ pub mod FinalSets
 pub mod Quiet
 pub mod Counting
 pub mod Marking
+pub mod Met
 pub mod Inside
+pub mod InAnalyzer
 pub mod Walks
 pub mod Deciding
 pub mod FalsityLaws

@@ -12,6 +12,7 @@ use Rattle.analyze.specs.declared.walk.Walk.{Walk}
 use Rattle.analyze.specs.Falsity.{false_at, false_under}
 use Rattle.analyze.specs.LearnedClauses.{ClauseFollows, has_each_once}
 use Rattle.analyze.specs.Marking.{is_marked, is_root}
+use Rattle.analyze.specs.Met.{are_set}
 
 -- the oldest steps, so many as are left
 abbrev pub rest_of : ℕ → List Step → List Step
@@ -48,6 +49,7 @@ pub record IsWalkOn (trail : Assignment) (walk : Walk) : Type 0 where
   pub room : trail.reserved ≤ walk.marks.room
   pub level : walk.level ≡ level_of trail.steps
   pub left : walk.left ≤ length trail.steps
+  pub met : are_set trail.steps walk.marks.vars ≡ true
   pub tracks : Tracks (level_of trail.steps) trail.steps (is_marked walk.marks) (rest_of walk.left trail.steps) walk.pending walk.others.items
 
 -- no literal was walked yet, and none is marked
@@ -88,6 +90,7 @@ pub record AtEnd (held : List Held) (trail : Assignment) (walk : Walk) (first : 
   pub stands : IsWalkOn trail walk
   pub above : 0 < level_of trail.steps
   pub first_false : false_at trail.steps (level_of trail.steps) first ≡ true
+  pub first_met : is_marked walk.marks first.var.0 ≡ true
   pub follows : ClauseFollows held (first ∷ walk.others.items)
 
 -- whether a variable is marked or of level 0

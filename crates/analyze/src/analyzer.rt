@@ -1,19 +1,22 @@
-ghost use Rattle.std.specs.Prelude.{◌≡◌, ◌<◌, IfOk, OnOk, OnErr, IsTrue};
+ghost use Rattle.std.specs.Prelude.{◌≡◌, ◌<◌, [], IfOk, OnOk, OnErr, IsTrue};
 ghost use Rattle.sat_lits.specs.InLits.{is_distinct};
 ghost use Rattle.trail.specs.Trail.{false_in, level_of, back_to};
+ghost use Rattle.clause_store.specs.Store.{IsKept};
 ghost use Rattle.propagate.specs.Units.{false_clause};
 ghost use Rattle.propagate.specs.Reasons.{names, reasoned};
 ghost use Rattle.analyze.specs.Falsity.{has_present};
 ghost use Rattle.analyze.specs.LearnedClauses.{IsLearned, unit_by_first};
 ghost use Rattle.analyze.specs.FinalSets.{IsFinalSet};
+ghost use Rattle.analyze.specs.Met.{are_set, lits_met};
 ghost use Rattle.analyze.specs.Counting.{saturated};
 
 use crate::deciding::deciding_levels;
 use crate::tally::Tally;
 use crate::walk::Walk;
 use clause_store::ClauseStore;
-use sat_lits::{ClauseId, InLit, List, NoMemory};
+use sat_lits::{ClauseId, InLit, Inner, List, NoMemory};
 use std::alloc::Global;
+use std::marker::Model;
 use trail::Trail;
 
 /// A clause that was learned from a conflict.
@@ -26,15 +29,29 @@ pub struct Learned {
     pub back: u32,
 }
 
-/// Finds what follows from a conflict. Its marks stay allocated between calls.
+/// Finds what follows from a conflict, and keeps which variables it met. Its marks stay allocated
+/// between calls.
 #[derive(Debug, Drop)]
 pub struct Analyzer {
     walk: Walk,
 }
 
+impl Model for Analyzer {
+    ghost use Rattle.std.specs.Prelude.{List};
+    ghost use Rattle.sat_lits.specs.declared.literal.Inner.{Inner};
+
+    ghost Value = { List Inner };
+
+    ghost use Rattle.analyze.specs.InAnalyzer.{met_of};
+
+    ghost view = { met_of };
+}
+
 impl Analyzer {
-    /// It takes no memory.
-    pub fn new(alloc: Global) -> Analyzer {
+    /// It has met no variable, and takes no memory.
+    pub fn new(alloc: Global) -> Analyzer
+        ensures { result ≡ [] }
+    {
         Analyzer {
             walk: Walk::new(alloc),
         }
@@ -61,6 +78,9 @@ impl Analyzer {
         ensures learned { IfOk result (λ learned. IsLearned store.now.held trail.now.steps learned.lits learned.back) }
         ensures distinct { IfOk result (λ learned. IsTrue (is_distinct learned.lits)) }
         ensures unit { IfOk result (λ learned. IsTrue (unit_by_first (back_to learned.back trail.now.steps) learned.lits)) }
+        ensures set { OnOk result (IsTrue (are_set trail.now.steps self.new)) }
+        ensures met { IfOk result (λ learned. IsTrue (lits_met self.new learned.lits)) }
+        ensures kept { OnOk result (IsKept store.now) }
         ensures counted { OnOk result (tally.new ≡ saturated tally.old 1) }
         ensures err { OnErr result (tally.new ≡ tally.old) }
     {
@@ -70,6 +90,15 @@ impl Analyzer {
         let learned = self.walk.clause(store, trail, first)?;
         tally.raise();
         Ok(learned)
+    }
+
+    /// The variables that the last call met, those of level 0 aside, each once. Of `learn` these are
+    /// the variables of the false clause and of the reasons that it was resolved with, which a search
+    /// prefers from then on (Eén and Sörensson, 2003).
+    pub fn met(&self) -> &[Inner]
+        ensures { result.now ≡ self.now }
+    {
+        self.walk.marks.vars()
     }
 
     /// The levels, rising, of decisions that make a literal false by the clauses of a store, where

@@ -79,6 +79,13 @@ impl Marks {
         self.contains(lit.var) || trail.level_of(lit.var).unwrap_or(0) == 0
     }
 
+    /// The marked variables, each once.
+    pub fn vars(&self) -> &[Inner]
+        ensures { result.now ≡ self.now.vars }
+    {
+        self.marked.as_slice()
+    }
+
     /// Marks a variable if it is of a level above 0 and not marked, and tells its level then. The
     /// only error is want of memory.
     pub fn mark(&mut self, trail: &Trail, var: Inner) -> Result<Option<u32>, NoMemory>

@@ -214,6 +214,7 @@ fn an_implied_literal_is_left_out(rt: HostRuntime) -> Result<(), Fail> {
     let learned = learn(&mut analyzer, &store, &trail, conflict, &mut tally)?;
     assert_eq!(rt; learned.lits.as_slice(), [no(2), no(0)].as_slice());
     assert_eq!(rt; learned.back, 1);
+    assert_eq!(rt; analyzer.met().len(), 4, "the one that is left out too");
     Ok(())
 }
 

@@ -4,6 +4,7 @@ ghost use Rattle.trail.specs.Trail.{level_of};
 ghost use Rattle.propagate.specs.Reasons.{reasoned};
 ghost use Rattle.analyze.specs.LearnedClauses.{IsLearned};
 ghost use Rattle.analyze.specs.Marking.{is_marked, IsGreatest};
+ghost use Rattle.analyze.specs.Met.{lits_met};
 
 use crate::analyzer::Learned;
 use crate::marks::Marks;
@@ -34,7 +35,9 @@ impl Walk {
     ghost use Rattle.analyze.specs.Walks.{IsWalkOn, IsStart, MarkedAll, AtWalk, IsTaken, AtEnd, may_mark, is_implied};
 
     /// It takes no memory.
-    pub fn new(alloc: Global) -> Walk {
+    pub fn new(alloc: Global) -> Walk
+        ensures { result.marks.vars ≡ [] }
+    {
         Walk {
             marks: Marks::new(alloc),
             level: 0,
@@ -129,7 +132,8 @@ impl Walk {
     ) -> Result<Learned, NoMemory>
         requires reasoned { IsTrue (reasoned store.now.held trail.now.steps) }
         requires end { AtEnd store.now.held trail.now self.now first }
-        ensures { IfOk result (λ learned. IsLearned store.now.held trail.now.steps learned.lits learned.back) }
+        ensures learned { IfOk result (λ learned. IsLearned store.now.held trail.now.steps learned.lits learned.back) }
+        ensures met { IfOk result (λ learned. IsTrue (lits_met self.now.marks.vars learned.lits)) }
     {
         let kept = self.kept(store, trail)?;
         let mut lits = List::new(self.marks.allocator());

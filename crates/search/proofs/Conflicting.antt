@@ -1,18 +1,15 @@
 -- What a conflict is, and what a clause learned from it is.
-use Rattle.std.proofs.Common.{◌≡◌, ◌<◌, ◌≤◌, ◌+◌, ℕ, suc, Bool, true, false, cond, not, eqb, leb, ltb, List, [], ◌∷◌, ◌++◌, length, map, filter, Option, Some, None, option_map, refl, sym, ap, subst, ◌∙◌, arith, eq-eqb, ltb-true}
-use Rattle.std.specs.Option.{is_some}
+use Rattle.std.proofs.Common.{◌≡◌, ◌<◌, ◌≤◌, ◌+◌, ℕ, suc, Bool, true, false, cond, not, eqb, leb, ltb, List, [], ◌∷◌, ◌++◌, length, map, filter, Some, None, option_map, refl, sym, ap, subst, ◌∙◌, arith, eq-eqb, ltb-true}
 use Rattle.std.proofs.lemmas.Bool.{and_parts, and_from, eqb-true, leb-true, le-leb, false≢true}
 use Rattle.std.proofs.lemmas.Option.{same_Some, none-some}
 use Rattle.std.specs.List.{list_all}
 use Rattle.sat_lits.specs.InLits.{opposite}
 use Rattle.sat_lits.specs.ListLaws.{all_or_any, all_mono}
 use Rattle.sat_lits.specs.declared.literal.InLit.{InLit}
-use Rattle.sat_lits.specs.declared.literal.ClauseId.{ClauseId}
 use Rattle.trail.specs.declared.trail.Step.{Step}
 use Rattle.trail.specs.Trail.{false_in, level_of}
 use Rattle.trail.specs.Laws.{opposite_var}
 use Rattle.clause_store.specs.Store.{Held, Store, clause_at, is_live, rising, IsKept, hard_of, learned_of}
-use Rattle.propagate.specs.Reasons.{names, passes}
 use Rattle.analyze.specs.Falsity.{false_by}
 use Rattle.analyze.specs.LearnedClauses.{IsLearned}
 use Rattle.analyze.specs.FalsityLaws.{by_false, at_false}

@@ -2,7 +2,7 @@
 use Rattle.std.specs.Prelude.{◌≡◌, ℕ, Bool, List, is_some}
 use Rattle.std.specs.declared.option.Option.{Option}
 use Rattle.std.specs.List.{list_all}
-use Rattle.sat_lits.specs.declared.literal.InLit.{InLit}
+use Rattle.sat_lits.specs.declared.literal.Inner.{Inner}
 use Rattle.trail.specs.declared.trail.Step.{Step}
 use Rattle.pick_order.specs.declared.preference.Preference.{Preference}
 use Rattle.pick_order.specs.Preferences.{preference_in}
@@ -12,9 +12,9 @@ use Rattle.search.specs.InUse.{is_among}
 abbrev pub is_ordered : List (Option Preference) → ℕ → Bool
 is_ordered order v = is_some (preference_in order v)
 
--- whether it has the variables of literals
-abbrev pub lits_ordered : List (Option Preference) → List InLit → Bool
-lits_ordered order lits = list_all (λ l. is_ordered order l.var.0) lits
+-- whether it has each of some variables
+abbrev pub vars_ordered : List (Option Preference) → List Inner → Bool
+vars_ordered order vars = list_all (λ v. is_ordered order v.0) vars
 
 -- whether it has those of a trail
 abbrev pub steps_ordered : List (Option Preference) → List Step → Bool

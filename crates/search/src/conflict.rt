@@ -8,7 +8,7 @@ ghost use Rattle.analyze.specs.LearnedClauses.{ClauseFollows, IsLearned, has_eac
 ghost use Rattle.pick_order.specs.Orders.{HasPassedSet, HasSamePassed};
 ghost use Rattle.search_laws.specs.TrailNumber.{trail_number};
 ghost use Rattle.search.specs.InUse.{in_use, lits_among};
-ghost use Rattle.search.specs.Ordering.{lits_ordered, steps_ordered, HasSame};
+ghost use Rattle.search.specs.Ordering.{vars_ordered, steps_ordered, HasSame};
 ghost use Rattle.search.specs.Learning.{HasAdded, HasLearned};
 ghost use Rattle.search.specs.Searching.{AtMove, EndsShort, gone_back};
 
@@ -16,7 +16,7 @@ use crate::work::Work;
 use analyze::{Learned, Tally};
 use pick_order::PickOrder;
 use private_state::{PrivateState, own_lits};
-use sat_lits::{ClauseId, InLit, NoMemory};
+use sat_lits::{ClauseId, InLit, Inner, NoMemory};
 use std::alloc::Global;
 use trail::Trail;
 
@@ -50,8 +50,8 @@ impl Work {
         Ok(())
     }
 
-    /// Learns a clause from a conflict above level 0, counts it, prefers its variables from now on,
-    /// and lets go of what is above its level.
+    /// Learns a clause from a conflict above level 0, counts it, prefers the variables that were met
+    /// from now on, and lets go of what is above its level.
     fn analyze(
         &mut self,
         state: &PrivateState,
@@ -69,14 +69,13 @@ impl Work {
         ensures conflicts { OnErr result (self.new.conflicts ≡ self.old.conflicts) }
         ensures tally { OnErr result (tally.new ≡ tally.old) }
         ensures same { self.new ≡ record self.old { order = self.new.order; analyzer = self.new.analyzer; conflicts = self.new.conflicts } }
-        ensures kept { IsKept state.now.store }
+        ensures kept { OnOk result (IsKept state.now.store) }
         ensures range { OnOk result (self.old.conflicts < 2 ^ 64) }
     {
         let store = state.clauses();
-        bump_all(&mut self.order, store.lits(conflict));
         let learned = self.analyzer.learn(store, &self.trail, conflict, tally)?;
         self.conflicts = self.conflicts.saturating_add(1);
-        bump_all(&mut self.order, learned.lits.as_slice());
+        prefer(&mut self.order, self.analyzer.met());
         let_go(&mut self.order, &self.trail, learned.back);
         Ok(learned)
     }
@@ -108,14 +107,24 @@ fn add_clause(alloc: Global, state: &mut PrivateState, lits: &[InLit]) -> Result
     Ok(id)
 }
 
-/// Bumps the variables of literals.
-fn bump_all(order: &mut PickOrder, lits: &[InLit])
-    requires { IsTrue (lits_ordered order.old.known lits.now) }
+/// Bumps the variables that a conflict met. Those of later conflicts count more.
+fn prefer(order: &mut PickOrder, met: &[Inner])
+    requires { IsTrue (vars_ordered order.old.known met.now) }
     ensures same { HasSame order.old.known order.new.known }
     ensures passed { HasSamePassed order.old order.new }
 {
-    for lit in lits {
-        order.bump(lit.var);
+    bump_all(order, met);
+    order.grow_increment();
+}
+
+/// Bumps variables.
+fn bump_all(order: &mut PickOrder, vars: &[Inner])
+    requires { IsTrue (vars_ordered order.old.known vars.now) }
+    ensures same { HasSame order.old.known order.new.known }
+    ensures passed { HasSamePassed order.old order.new }
+{
+    for var in vars {
+        order.bump(*var);
     }
 }
 

@@ -17,7 +17,7 @@ first_uip-requires-clause-walk c =
     c.requires.level c.in_ok-mark_all.ensures
 
 pub returns-clause-distinct : goal.returns-clause-distinct
-returns-clause-distinct c = once_distinct c.in_ok-learned.learned.lits c.in_ok-learned.ensures.once
+returns-clause-distinct c = once_distinct c.in_ok-learned.learned.lits c.in_ok-learned.ensures.learned.once
 
 pub returns-clause-unit : goal.returns-clause-unit
-returns-clause-unit c = learned_unit_by_first c.args.store.now.held c.args.trail.now.steps c.in_ok-learned.learned.lits c.in_ok-learned.learned.back c.in_ok-start.ensures.stands.kept.sound c.in_ok-learned.ensures
+returns-clause-unit c = learned_unit_by_first c.args.store.now.held c.args.trail.now.steps c.in_ok-learned.learned.lits c.in_ok-learned.learned.back c.in_ok-start.ensures.stands.kept.sound c.in_ok-learned.ensures.learned
