@@ -3,3 +3,12 @@ pub mod Collecting
 pub mod Following
 pub mod Moving
 pub mod Rows
+pub mod ParityForms
+pub mod OddNumbers
+pub mod ParityRoots
+pub mod PieceWalks
+pub mod PieceChain
+pub mod KernelMade
+pub mod StoredForms
+pub mod KernelParity
+pub mod Defining

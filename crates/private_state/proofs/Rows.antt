@@ -4,12 +4,16 @@ use Rattle.std.proofs.lemmas.Bool.{and_parts}
 use Rattle.std.proofs.lemmas.List.Folds.{list_all-append}
 use Rattle.std.specs.List.{list_all}
 use Rattle.sat_lits.specs.declared.literal.Lit.{Lit}
+use Rattle.sat_lits.specs.declared.literal.Var.{Var}
 use Rattle.sat_lits.specs.declared.literal.OwnLit.{OwnLit}
 use Rattle.clause_store.specs.Store.{Held, clause_at, rising}
 
 -- literals by the number of the variable and the sign
 abbrev pub lit : ℕ → Bool → Lit
 lit n negative = record { var = record { 0 = n }; negative = negative }
+
+abbrev pub var : ℕ → Var
+var n = record { 0 = n }
 
 abbrev pub own_lit : ℕ → Bool → OwnLit
 own_lit n negative = record { var = record { 0 = n }; negative = negative }

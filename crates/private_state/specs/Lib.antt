@@ -3,6 +3,10 @@ pub mod Fresh
 pub mod Removed
 pub mod Statuses
 pub mod RemovedKept
+pub mod Parities
+pub mod Marks
+pub mod InMaps
+pub mod MadeOf
 pub mod Taking
 pub mod Kept
 pub mod Rebuilt

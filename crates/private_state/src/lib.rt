@@ -6,8 +6,13 @@
 #![tactic(auto)]
 
 mod collect;
+mod defined;
+mod forms;
 mod literals;
+mod made;
+mod odd;
 mod own_form;
+mod parity;
 mod put_in;
 mod removed;
 mod state;

@@ -1,4 +1,4 @@
-ghost use Rattle.std.specs.Prelude.{◌≡◌, ◌+◌, ◌-◌, ◌≤◌, ◌^◌, length, true, false, IsTrue, IfOk, OnOk, OnErr};
+ghost use Rattle.std.specs.Prelude.{◌≡◌, ◌+◌, ◌-◌, ◌≤◌, ◌^◌, Some, length, true, false, IsTrue, IfOk, OnOk, OnErr};
 ghost use Rattle.std.specs.List.{list_any};
 ghost use Rattle.sat_lits.specs.Truth.{clauses_value};
 ghost use Rattle.sat_lits.specs.Meaning.{IsModel};
@@ -9,25 +9,30 @@ ghost use Rattle.clause_store.specs.Store.{contents, hard_of, without};
 ghost use Rattle.var_maps.specs.Maps.{plain, retired};
 ghost use Rattle.state_laws.specs.State.{is_active, outer_count, problem_of};
 ghost use Rattle.state_laws.specs.Conditions.{IsContradicted, EntryFollows, Pushable, Takable, Learnable};
-ghost use Rattle.state_laws.specs.Moves.{put_into, taken, learning, grown};
+ghost use Rattle.state_laws.specs.Moves.{put_into, taken, extended, learning, grown};
 ghost use Rattle.state_laws.specs.Held.{in_value};
 ghost use Rattle.state_laws.specs.Kernel.{Standing, no_kernel, state_of, plain_kernel, Learns, Keeps, Longer, IsLearnedId, IsImplied};
 ghost use Rattle.state_laws.specs.RootTableLaws.{entry_of};
 ghost use Rattle.private_state.specs.Removed.{last_lit, fixed_value};
 ghost use Rattle.private_state.specs.Statuses.{status_of, IsEnd};
 ghost use Rattle.private_state.specs.Rebuilt.{rebuilt_values};
-ghost use Rattle.private_state.specs.Taking.{IsTakable, item_taken};
+ghost use Rattle.private_state.specs.Taking.{IsTakable, item_taken, MapsAfter};
+ghost use Rattle.private_state.specs.Parities.{ParityTakable, parity_taken, IsDefinable, defining_clauses};
 
 use crate::collect::{add_all, collect, drop_all};
+use crate::defined::made_by;
+use crate::forms::made_of;
 use crate::literals::in_lits;
+use crate::made::add_made;
 use crate::own_form::{add_hard, own_form};
+use crate::parity::own_pieces;
 use crate::put_in::var_of;
 use crate::removed::{RemovedVars, Status};
 use crate::values::{outer_values, own_values};
 use clause_store::ClauseStore;
 use indexed_store::IndexedStore;
 use rebuild_stack::{Entry, RebuildStack};
-use sat_lits::{ClauseId, Item, List, Lit, NoMemory, Own, OwnLit, Shared};
+use sat_lits::{ClauseId, Item, List, Lit, NoMemory, Own, OwnLit, Shared, Var};
 use state_laws::Definition;
 use std::alloc::Global;
 use std::marker::Model;
@@ -169,21 +174,47 @@ impl PrivateState {
         Ok(())
     }
 
-    /// Takes an item, which is a clause today. Its variables are there, and none of them is
-    /// eliminated, nor replaced by an eliminated one. Fixed literals are put in and replaced ones
-    /// substituted, and what is left is held as a hard clause. The only error is want of memory,
-    /// and nothing changes then.
+    /// Takes an item. Its variables are there, and none of them is eliminated, nor replaced by an
+    /// eliminated one. Fixed variables are put in and replaced ones substituted. What is left of a
+    /// clause is held as a hard clause. A parity is cancelled and cut: the fresh variable of each cut
+    /// becomes a private one, and each piece is held as its clauses. So a parity of which no variable
+    /// is left is the empty clause where its right side is true, and adds none where it is false.
+    /// The only error is want of memory, and nothing changes then.
     pub fn take_input(&mut self, item: &Item) -> Result<(), NoMemory>
         requires { IsTakable (state_of self.old) item.now }
         ensures ok { OnOk result (state_of self.new ≡ item_taken item.now (state_of self.old)) }
         ensures ids { OnOk result (Longer self.old self.new) }
-        ensures maps { self.new.maps ≡ self.old.maps }
+        ensures maps { MapsAfter item.now self.old.maps self.new.maps }
         ensures err { OnErr result (plain_kernel self.new ≡ plain_kernel self.old) }
     {
         match item {
             Item::Clause(lits) => self.take_clause(lits.as_slice()),
-            Item::Parity { .. } => unreachable!(),
+            Item::Parity { vars, rhs } => self.take_parity(vars.as_slice(), *rhs),
         }
+    }
+
+    fn take_parity(&mut self, vars: &[Var], rhs: bool) -> Result<(), NoMemory>
+        requires { ParityTakable (state_of self.old) vars.now rhs }
+        ensures ok { OnOk result (state_of self.new ≡ parity_taken vars.now rhs (state_of self.old)) }
+        ensures ids { OnOk result (Longer self.old self.new) }
+        ensures outers { self.new.maps.outers ≡ self.old.maps.outers }
+        ensures err { OnErr result (plain_kernel self.new ≡ plain_kernel self.old) }
+    {
+        let alloc = self.alloc;
+        let vars = List::from_slice(alloc, vars)?;
+        let pieces = own_pieces(alloc, &self.maps, &self.removed, vars.as_slice(), rhs)?;
+        let made = made_of(alloc, &self.maps, &pieces)?;
+        self.items.reserve(1)?;
+        add_made(
+            alloc,
+            &mut self.maps,
+            &mut self.store,
+            &mut self.removed,
+            &mut self.definitions,
+            made,
+        )?;
+        self.items.push(Item::Parity { vars, rhs }).unwrap();
+        Ok(())
     }
 
     fn take_clause(&mut self, lits: &[Lit]) -> Result<(), NoMemory>
@@ -199,6 +230,31 @@ impl PrivateState {
         add_hard(&mut self.store, &clause)?;
         self.items.push(item).unwrap();
         Ok(())
+    }
+
+    /// Makes a private variable with a definition over one to four different active variables, and
+    /// adds the clauses that define it (Tseitin, 1968). The new variable is the next own one. The
+    /// only error is want of memory, and nothing changes then.
+    pub fn define_private(&mut self, definition: &Definition) -> Result<Own, NoMemory>
+        requires { IsDefinable (state_of self.old) definition.now }
+        ensures value { IfOk result (λ own. own.0 ≡ length self.old.definitions) }
+        ensures ok { OnOk result (state_of self.new ≡ extended (Some definition.now) (defining_clauses (length self.old.definitions) definition.now) (state_of self.old)) }
+        ensures ids { OnOk result (Longer self.old self.new) }
+        ensures outers { self.new.maps.outers ≡ self.old.maps.outers }
+        ensures err { OnErr result (plain_kernel self.new ≡ plain_kernel self.old) }
+    {
+        let alloc = self.alloc;
+        let own = Own(self.maps.own_len());
+        let made = made_by(alloc, &self.maps, definition)?;
+        add_made(
+            alloc,
+            &mut self.maps,
+            &mut self.store,
+            &mut self.removed,
+            &mut self.definitions,
+            made,
+        )?;
+        Ok(own)
     }
 
     /// Adds a learned clause, and tells its id. Its variables are active, none stands in it twice,

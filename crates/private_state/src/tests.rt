@@ -6,8 +6,10 @@ ghost use Rattle.state_laws.specs.Conditions.{Takable};
 ghost use Rattle.state_laws.specs.Moves.{grown, taken};
 ghost use Rattle.state_laws.specs.Held.{in_value};
 ghost use Rattle.state_laws.specs.Kernel.{state_of};
+ghost use Rattle.state_laws.specs.declared.definition.Definition.TheVariants.{Xor};
+ghost use Rattle.private_state.specs.Parities.{ParityTakable, IsDefinable};
 
-use crate::PrivateState;
+use crate::{Definition, PrivateState};
 use clause_store::ClauseStore;
 use rebuild_stack::Entry;
 use sat_lits::{ClauseId, InLit, Item, List, Lit, NoMemory, Own, OwnLit, Var};
@@ -55,6 +57,19 @@ fn take(alloc: Global, state: &mut PrivateState, lits: &[Lit]) -> Result<(), NoM
     ensures { OnOk result (state_of state.new ≡ taken lits.now (state_of state.old)) }
 {
     let item = Item::Clause(List::from_slice(alloc, lits)?);
+    state.take_input(&item)
+}
+
+fn take_parity(
+    alloc: Global,
+    state: &mut PrivateState,
+    vars: &[Var],
+    rhs: bool,
+) -> Result<(), NoMemory>
+    requires { ParityTakable (state_of state.old) vars.now rhs }
+{
+    let vars = List::from_slice(alloc, vars)?;
+    let item = Item::Parity { vars, rhs };
     state.take_input(&item)
 }
 
@@ -177,5 +192,71 @@ fn a_learned_clause_is_dropped(rt: HostRuntime) -> Result<(), Fail> {
     assert_eq!(rt; state.clauses().is_live(id), false);
     state.compact();
     assert_eq!(rt; first_clause(&rt, &state), Some((1, Some(Own(0)), true)));
+    Ok(())
+}
+
+/// What a parity of five variables with a true right side is held as.
+fn check_pieces(rt: &impl Abort, state: &PrivateState) -> Result<(), NoMemory> {
+    assert!(rt; state.taken() == 1);
+    assert!(rt; state.maps().own_len() == 6);
+    assert!(rt; state.maps().outer_count() == 5);
+    assert!(rt; !satisfies(state.clauses(), &[false; 6]));
+    let values = model(rt, state, &[true, false, false, false, false, true])?;
+    assert!(rt; values.as_slice() == [true, false, false, false, false].as_slice());
+    Ok(())
+}
+
+#[test]
+fn a_parity_is_held_in_pieces(rt: HostRuntime) -> Result<(), Fail> {
+    let mut state = new_state(rt.alloc(), 5)?;
+    take_parity(
+        rt.alloc(),
+        &mut state,
+        &[Var(0), Var(1), Var(2), Var(3), Var(4)],
+        true,
+    )?;
+    check_pieces(&rt, &state)?;
+    Ok(())
+}
+
+#[test]
+fn a_repeated_variable_is_cancelled(rt: HostRuntime) -> Result<(), Fail> {
+    let mut state = new_state(rt.alloc(), 1)?;
+    take_parity(rt.alloc(), &mut state, &[Var(0), Var(0)], false)?;
+    assert_eq!(rt; state.clauses().first(), None);
+    Ok(())
+}
+
+#[test]
+fn a_parity_of_nothing_is_the_empty_clause(rt: HostRuntime) -> Result<(), Fail> {
+    let mut state = new_state(rt.alloc(), 1)?;
+    take_parity(rt.alloc(), &mut state, &[Var(0), Var(0)], true)?;
+    assert_eq!(rt; state.clauses().first().is_some(), true);
+    assert_eq!(rt; satisfies(state.clauses(), &[true]), false);
+    Ok(())
+}
+
+fn define(alloc: Global, state: &mut PrivateState, vars: &[Own]) -> Result<Own, NoMemory>
+    requires { IsDefinable (state_of state.old) (Xor vars.now) }
+{
+    let vars = List::from_slice(alloc, vars)?;
+    state.define_private(&Definition::Xor { vars })
+}
+
+#[test]
+fn a_private_variable_is_the_next_own_one(rt: HostRuntime) -> Result<(), Fail> {
+    let mut state = new_state(rt.alloc(), 3)?;
+    let own = define(rt.alloc(), &mut state, &[Own(0), Own(1)])?;
+    assert_eq!(rt; own, Own(3));
+    assert!(rt; state.maps().own_len() == 4);
+    assert_eq!(rt; state.maps().to_outer(own), None);
+    assert_eq!(rt;
+        satisfies(state.clauses(), &[true, false, false, false]),
+        false
+    );
+    assert_eq!(rt;
+        satisfies(state.clauses(), &[true, false, false, true]),
+        true
+    );
     Ok(())
 }

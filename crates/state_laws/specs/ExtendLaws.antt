@@ -95,7 +95,7 @@ part_longer : (ds : List (Option Definition)) (d : Option Definition) (w : ℕ �
 part_longer ds d w = ap (map w) (outers_from-append 0 ds (d ∷ [])) ∙ map-append w (outers_from 0 ds) (outers_from (0 + length ds) (d ∷ []))
 
 -- one more own variable changes nothing for an item over the outer variables that are there
-item_same : (ds : List (Option Definition)) (d : Option Definition) (w : ℕ → Bool) (item : Item) → names_known (outer_count ds) item ≡ true → satisfies (outer_part (ds ++ d ∷ []) w) item ≡ satisfies (outer_part ds w) item
+pub item_same : (ds : List (Option Definition)) (d : Option Definition) (w : ℕ → Bool) (item : Item) → names_known (outer_count ds) item ≡ true → satisfies (outer_part (ds ++ d ∷ []) w) item ≡ satisfies (outer_part ds w) item
 item_same ds d w item e =
     satisfies_agree (outer_part (ds ++ d ∷ []) w) (outer_part ds w) (outer_count ds)
     (λ v l. ap (λ (z : List Bool). value_of z v) (part_longer ds d w)
@@ -112,7 +112,8 @@ entries_same s d w h =
     all_agree (λ (e : Shared). names_known (outer_count s.definitions) (Clause e.clause)) (λ (e : Shared). satisfies_clause (outer_part (s.definitions ++ d ∷ []) w) e.clause) (λ (e : Shared). satisfies_clause (outer_part s.definitions w) e.clause)
     (λ e k. item_same s.definitions d w (Clause e.clause) k) s.entries h
 
-before_extended : (d : Option Definition) (cs : List (List OwnLit)) (s : State) (w : ℕ → Bool) → IsInRange s → Accords (extended d cs s) w → (Accords s w) × (is_as_defined w (length s.definitions) d ≡ true)
+-- what accords with a state after an own variable is made accorded with it before, and the variable is as defined
+pub before_extended : (d : Option Definition) (cs : List (List OwnLit)) (s : State) (w : ℕ → Bool) → IsInRange s → Accords (extended d cs s) w → (Accords s w) × (is_as_defined w (length s.definitions) d ≡ true)
 before_extended d cs s w r a =
     let p : (are_as_defined w 0 s.definitions ≡ true) × ((is_as_defined w (0 + length s.definitions) d && true) ≡ true) = and_parts _ _ (sym (are_as_defined-append w 0 s.definitions (d ∷ [])) ∙ a.defined) in
     let q : (is_as_defined w (0 + length s.definitions) d ≡ true) × (true ≡ true) = and_parts _ _ p.1 in (

@@ -74,11 +74,12 @@ impl VarMaps {
         Ok(own)
     }
 
-    /// Adds an active variable that stands for none of the caller's. The only error is want of
-    /// memory, and the maps then stay as they were.
+    /// Adds an active variable that stands for none of the caller's. Its inner number is `inner_len`.
+    /// The only error is want of memory, and the maps then stay as they were.
     pub fn add_private(&mut self) -> Result<Own, NoMemory>
         requires { length self.old.inners < 2 ^ 31 }
         ensures ok { IfOk result (λ own. Added None own self.old self.new) }
+        ensures last { IfOk result (λ own. self.new.owners ≡ self.old.owners ++ Some own ∷ []) }
         ensures outers { self.new.outers ≡ self.old.outers }
         ensures err { OnErr result (plain self.new ≡ plain self.old) }
         ensures spare { self.old.spare ≤ self.new.spare + 1 }

@@ -107,7 +107,10 @@ fresh_value true false e = e
 fresh_value false true e = sym e
 fresh_value false false e = refl
 
--- the piece's own values: a changed value above those that the variables have is not seen
+pub first_gives : (w : ℕ → Bool) (vars : List Own) (next : ℕ) → is_parity w (take 3 vars ++ own_var next ∷ []) false ≡ true → w next ≡ exclusive_or w (take 3 vars)
+first_gives w vars next e = fresh_value (exclusive_or w (take 3 vars)) (w next) (sym (ap (λ b. beq b false) (exclusive_or-push w (take 3 vars) (own_var next))) ∙ e)
+
+-- a value changed above all variables is not seen
 changed_above : (w : ℕ → Bool) (next : ℕ) (b : Bool) (vars : List Own) → list_all (λ v. ltb v.0 next) vars ≡ true → exclusive_or (with_value w next b) vars ≡ exclusive_or w vars
 changed_above w next b vars e = exclusive_or_below w (with_value w next b) next (λ k l. with_value_other w next b k (ne_eqb k next (λ q. omega arith))) vars e
 

@@ -34,11 +34,12 @@ fn first_piece(alloc: Global, vars: &[Own], fresh: Own) -> Result<Piece, NoMemor
 /// end of what remains. The last piece is what remains, with `rhs`. The fresh variables are
 /// `next`, `next + 1` and so on.
 ///
-/// The variables are different and below `next`. The only error is want of memory.
+/// The variables are different and below `next`, and the fresh ones are numbers of 32 bits. The only
+/// error is want of memory.
 pub fn cut(alloc: Global, vars: &[Own], rhs: bool, next: u32) -> Result<Pieces, NoMemory>
     requires different { IsTrue (are_different vars.now) }
     requires below { list_all (λ v. nat_lt v.0 next) vars.now ≡ true }
-    requires room { next + length vars.now < 2 ^ 32 }
+    requires room { next + cuts_of_count (length vars.now) ≤ 2 ^ 32 }
     ensures value { IfOk result (λ ps. ps ≡ pieces vars.now rhs next) }
     ensures count { IfOk result (λ ps. length ps ≡ cuts_of_count (length vars.now) + 1) }
     ensures fresh { IfOk result (λ ps. filter_map (λ p. p.fresh) ps ≡ own_vars next (cuts_of_count (length vars.now))) }

@@ -1,0 +1,8 @@
+use Rattle.std.proofs.Common.{true, false, [], ◌∷◌, refl, sym, subst, lit≤}
+use Rattle.state_laws.specs.State.{State}
+use Rattle.private_state.specs.Parities.{ParityTakable}
+use Rattle.private_state.proofs.Rows.{var}
+use Rattle.private_state.proofs.tests.a_parity_is_held_in_pieces.Goals as goal
+
+pub take_parity-requires : goal.take_parity-requires
+take_parity-requires g c = subst (λ (s : State). ParityTakable s (var 0 ∷ var 1 ∷ var 2 ∷ var 3 ∷ var 4 ∷ []) true) (sym c.in_ok-state.ensures) (record { there = refl; roots = refl; room = lit≤ tt })
