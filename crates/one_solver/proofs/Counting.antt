@@ -1,5 +1,5 @@
 -- The conflicts of a call.
-use Rattle.std.proofs.Common.{◌≡◌, ℕ, zero, suc, ◌+◌, ◌-◌, ◌^◌, ◌<◌, ◌≤◌, Bool, true, false, cond, [], Option, Some, None, refl, sym, ap, subst, ◌∙◌, ⊎_elim, length, map, sum, option_map, arith, rules, IfSome, ltb, ltb-true}
+use Rattle.std.proofs.Common.{◌≡◌, ℕ, zero, suc, ◌+◌, ◌-◌, ◌^◌, ◌<◌, ◌≤◌, Bool, true, false, cond, List, [], Option, Some, None, refl, sym, ap, subst, ◌∙◌, ⊎_elim, length, map, sum, option_map, arith, rules, IfSome, ltb, ltb-true}
 use Rattle.std.specs.Option.{is_some}
 use Rattle.std.proofs.Math.Nat.{pow-le-pow_right}
 use Rattle.std.proofs.lemmas.Bool.{cases_lt}
@@ -7,7 +7,10 @@ use Rattle.std.proofs.lemmas.List.{length-map}
 use Rattle.sat_lits.specs.Conflicts.{own_count, interval_len, intervals_len, intervals_for, enough}
 use Rattle.sat_lits.specs.ConflictLaws.{intervals_count, intervals_len-suc}
 use Rattle.sat_lits.specs.Verdicts.{IsFailed}
+use Rattle.sat_lits.specs.Formulas.{names_known}
 use Rattle.sat_lits.specs.Meaning.{Problem}
+use Rattle.sat_lits.specs.declared.literal.Lit.{Lit}
+use Rattle.sat_lits.specs.declared.formula.Item.TheVariants.{Clause}
 use Rattle.analyze.specs.Counting.{saturated}
 use Rattle.state_laws.specs.State.{problem_of}
 use Rattle.state_laws.specs.Kernel.{Kernel, state_of, Standing}
@@ -15,8 +18,8 @@ use Rattle.search.specs.Answers.{own_length, IsBelow}
 use Rattle.one_solver.specs.declared.answer.StepAnswer.{StepAnswer}
 use Rattle.one_solver.specs.declared.answer.StepAnswer.TheVariants.{Verdict, IntervalOver, Spent, Asked, Memory}
 use Rattle.one_solver.specs.Basic.{IsBasic}
-use Rattle.one_solver.specs.Parts.{Parts, problem_in}
-use Rattle.one_solver.specs.Steps.{IsUnderWay, IsTidy, EndsInterval, SpendsLimit, StepsRight, IsOverOrNone, HasNoModel}
+use Rattle.one_solver.specs.Parts.{Parts, problem_in, AssumesKnown}
+use Rattle.one_solver.specs.Steps.{IsVerdictOrNone, IsUnderWay, IsTidy, EndsInterval, SpendsLimit, StepsRight, IsOverOrNone, HasNoModel}
 use Rattle.one_solver.proofs.Taking.{outer_length}
 
 -- there are no more own variables than the items may come to have
@@ -87,11 +90,18 @@ spends old new limit c a count u w r e few active t s =
 in_range : (i : ℕ) → i ≤ 2 ^ 20 → intervals_len i < 2 ^ 64 - 1
 in_range i h = let l : intervals_len i ≤ intervals_len 1048576 = no_fewer i 1048576 h in omega arith
 
+-- the variables of the same assumptions are still there
+pub still_known : (old new : Parts) → problem_in new ≡ problem_in old → new.assumptions ≡ old.assumptions → AssumesKnown old → AssumesKnown new
+still_known old new same kept a = record {
+  known = ap (λ (f : Problem). names_known f.vars (Clause new.assumptions)) same ∙ (ap (λ (ls : List Lit). names_known (problem_in old).vars (Clause ls)) kept ∙ a.known);
+  few = subst (λ (ls : List Lit). length ls < 2 ^ 32) (sym kept) a.few;
+}
+
 -- an interval was made whole
 pub ends : (old new : Parts) (limit : Option ℕ) (c a : ℕ) → IsUnderWay old → IfSome limit (λ m. old.conflicts ≤ m) → own_length old.interval ≡ Some c → IsBelow c (option_map (λ m. m - old.conflicts) limit)
-    → c < 3 ^ a → a ≤ own_count (problem_in old) → new.conflicts ≡ saturated old.conflicts c → IsTidy old.interval new → problem_in new ≡ problem_in old → EndsInterval old new limit
-ends old new limit c a u w own below few active t tidy same = record {
-  under_way = record { counted = counted; few = (let l : old.interval < 2 ^ 20 = first.0 in omega arith); short = short };
+    → c < 3 ^ a → a ≤ own_count (problem_in old) → new.conflicts ≡ saturated old.conflicts c → IsTidy old.interval new → problem_in new ≡ problem_in old → new.assumptions ≡ old.assumptions → EndsInterval old new limit
+ends old new limit c a u w own below few active t tidy same kept = record {
+  under_way = record { counted = counted; few = (let l : old.interval < 2 ^ 20 = first.0 in omega arith); short = short; assumed = still_known old new same kept u.assumed };
   counted = more;
   few = first.0;
   tidy = tidy;
@@ -138,5 +148,13 @@ over_right old new limit before now Asked h f = absurd h
 over_right old new limit before now Memory h f = tt
 
 -- where there is no model, no assumption is needed for a contradiction
-pub none_fails : (f : Problem) → HasNoModel f → IsFailed f [] []
-none_fails f h = record { positions = []; rising = search rules; places = tt; distinct = search rules; contradict = λ values m. absurd (h values m) }
+pub none_fails : (f : Problem) (assumptions : List Lit) → HasNoModel f → IsFailed f assumptions []
+none_fails f assumptions h = record { positions = []; rising = search rules; places = tt; distinct = search rules; contradict = λ values m. absurd (h values m) }
+
+-- a right verdict is a right answer
+pub verdict_right : (old new : Parts) (limit : Option ℕ) (before now : ℕ) (answer : StepAnswer) → IsVerdictOrNone (problem_in old) old.assumptions answer → StepsRight old new limit before now answer
+verdict_right old new limit before now (Verdict v) h = h
+verdict_right old new limit before now IntervalOver h = absurd h
+verdict_right old new limit before now (Spent count) h = absurd h
+verdict_right old new limit before now Asked h = absurd h
+verdict_right old new limit before now Memory h = tt

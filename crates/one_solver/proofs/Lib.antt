@@ -6,3 +6,4 @@ pub mod Noting
 pub mod Taking
 pub mod Refuting
 pub mod Counting
+pub mod Assumptions

@@ -5,13 +5,14 @@ use Rattle.sat_lits.specs.Truth.{clause_value}
 use Rattle.sat_lits.specs.Meaning.{Follows}
 use Rattle.sat_lits.specs.ClauseLaws.{clause_value-map}
 use Rattle.sat_lits.specs.ListLaws.{all_mono}
+use Rattle.sat_lits.specs.declared.literal.InLit.{InLit}
 use Rattle.sat_lits.specs.declared.shared.Shared.{Shared}
 use Rattle.std.proofs.lemmas.Bool.{and_parts, true≢false}
 use Rattle.rebuild_stack.specs.Values.{own_value}
 use Rattle.clause_store.specs.Store.{Held}
 use Rattle.propagate.specs.Reasons.{lit_value, held_value}
 use Rattle.state_laws.specs.State.{problem_of}
-use Rattle.state_laws.specs.Conditions.{IsContradicted}
+use Rattle.state_laws.specs.Conditions.{Satisfies, IsContradicted}
 use Rattle.state_laws.specs.Held.{own_or, own_of, own_clause}
 use Rattle.state_laws.specs.Kernel.{Kernel, state_of, Standing}
 use Rattle.state_laws.specs.ViewLaws.{both_lists}
@@ -22,6 +23,17 @@ use Rattle.var_maps.specs.Maps.{owner_at}
 use Rattle.one_solver.specs.Basic.{IsBasic}
 use Rattle.one_solver.specs.Steps.{HasNoModel}
 
+-- the value of an inner number is that of its own variable
+abbrev pub inner_of : Kernel → (ℕ → Bool) → ℕ → Bool
+inner_of k w i = w (own_or (length k.maps.inners) (owner_at k.maps i)).0
+
+-- where own values satisfy the clauses, these satisfy them as they are stored
+pub held_inner : (k : Kernel) (w : ℕ → Bool) → Satisfies (state_of k) w → held_value (inner_of k w) k.store.held ≡ true
+held_inner k w s =
+    all_mono (λ (h : Held). clause_value (own_value w) (own_clause k.maps h.lits)) (λ (h : Held). clause_value (lit_value (inner_of k w)) h.lits)
+    (λ h e. sym (clause_value-map (own_value w) (own_of k.maps) h.lits) ∙ e) k.store.held
+    (both_lists k.maps (clause_value (own_value w)) k.store.held s.hard s.learned)
+
 -- the items of a state that is not okay have no model
 pub no_model : (k : Kernel) → Standing k → IsBasic k → k.okay ≡ false → HasNoModel (problem_of (state_of k))
 no_model k s b e = refuted_has_no_model (state_of k) s.stands e none
@@ -29,18 +41,9 @@ no_model k s b e = refuted_has_no_model (state_of k) s.stands e none
     none : (at : ℕ) (entry : Shared) → slice_get k.entries at ≡ Some entry → Follows (problem_of (state_of k)) entry.clause
     none at entry f = absurd (let g : slice_get {X = Shared} [] at ≡ Some entry = ap (λ (z : List Shared). slice_get z at) (sym b.entries) ∙ f in cc)
 
--- positions of no assumption: the clauses contradict each other
-pub failed_contradicted : (k : Kernel) (positions : List ℕ) → AreFailed k.store.held [] positions → IsContradicted (state_of k)
-failed_contradicted k positions f w s = true≢false (sym (whole positions f.within) ∙ f.contradict inner held)
+-- where no literal has failed, the clauses contradict each other
+pub failed_contradicted : (k : Kernel) (lits : List InLit) (positions : List ℕ) → positions ≡ [] → AreFailed k.store.held lits positions → IsContradicted (state_of k)
+failed_contradicted k lits positions e f w s = true≢false (ap (λ (ps : List ℕ). list_all (λ p. lit_value inner (assumption_at lits p)) ps) (sym e) ∙ f.contradict inner (held_inner k w s))
   where
     inner : ℕ → Bool
-    inner i = w (own_or (length k.maps.inners) (owner_at k.maps i)).0
-
-    held : held_value inner k.store.held ≡ true
-    held = all_mono (λ (h : Held). clause_value (own_value w) (own_clause k.maps h.lits)) (λ (h : Held). clause_value (lit_value inner) h.lits)
-        (λ h e. sym (clause_value-map (own_value w) (own_of k.maps) h.lits) ∙ e) k.store.held
-        (both_lists k.maps (clause_value (own_value w)) k.store.held s.hard s.learned)
-
-    whole : (ps : List ℕ) → list_all (λ p. ltb p 0) ps ≡ true → list_all (λ p. lit_value inner (assumption_at [] p)) ps ≡ true
-    whole [] e = refl
-    whole (p ∷ ps) e = absurd (let l : p < 0 = ltb-true p 0 (and_parts _ _ e).0 in omega arith)
+    inner = inner_of k w

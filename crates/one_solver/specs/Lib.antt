@@ -1,5 +1,6 @@
 pub mod Basic
 pub mod Parts
+pub mod Assuming
 pub mod Units
 pub mod Taken
 pub mod Fixing

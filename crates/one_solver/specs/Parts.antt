@@ -1,15 +1,19 @@
 -- What contracts see of one solver.
-use Rattle.std.specs.Prelude.{◌≡◌, ℕ}
+use Rattle.std.specs.Prelude.{◌≡◌, ◌<◌, ◌^◌, ℕ, true, List, length}
+use Rattle.sat_lits.specs.Formulas.{names_known}
 use Rattle.sat_lits.specs.Meaning.{Problem}
+use Rattle.sat_lits.specs.declared.literal.Lit.{Lit}
+use Rattle.sat_lits.specs.declared.formula.Item.TheVariants.{Clause}
 use Rattle.state_laws.specs.State.{problem_of}
 use Rattle.state_laws.specs.Kernel.{Kernel, state_of}
 
--- its number, its private state, the conflicts of the call, and the number of the next interval
+-- its number, its private state, the conflicts of the call, the number of the next interval, and the assumptions of the call
 pub record Parts : Type 0 where
   pub number : ℕ
   pub kernel : Kernel
   pub conflicts : ℕ
   pub interval : ℕ
+  pub assumptions : List Lit
 
 -- the formula of the items that it took
 abbrev pub problem_in : Parts → Problem
@@ -20,3 +24,9 @@ pub record SameCall (old new : Parts) : Type 0 where
   pub number : new.number ≡ old.number
   pub conflicts : new.conflicts ≡ old.conflicts
   pub interval : new.interval ≡ old.interval
+  pub assumptions : new.assumptions ≡ old.assumptions
+
+-- the variables of the assumptions are there, and the positions of assumptions have 32 bits
+pub record AssumesKnown (s : Parts) : Type 0 where
+  pub known : names_known (problem_in s).vars (Clause s.assumptions) ≡ true
+  pub few : length s.assumptions < 2 ^ 32

@@ -1,26 +1,28 @@
-ghost use Rattle.std.specs.Prelude.{◌≡◌, ◌≢◌, ◌-◌, ◌<◌, ◌≤◌, ◌^◌, [], false, true, length, option_map, IfSome, OnOk, IsTrue};
+ghost use Rattle.std.specs.Prelude.{◌≡◌, ◌≢◌, ◌-◌, ◌<◌, ◌≤◌, ◌^◌, [], false, true, length, map, nat_lt, slice_index, option_map, IfOk, IfSome, OnOk, IsTrue};
 ghost use Rattle.std.specs.List.{list_all};
-ghost use Rattle.sat_lits.specs.Formulas.{Extends, no_problem};
-ghost use Rattle.sat_lits.specs.Truth.{clauses_value};
+ghost use Rattle.std.specs.List.Sorted.{IsStrictlyIncreasing};
+ghost use Rattle.sat_lits.specs.Formulas.{Extends, no_problem, names_known};
+ghost use Rattle.sat_lits.specs.declared.formula.Item.TheVariants.{Clause};
 ghost use Rattle.sat_lits.specs.declared.verdict.Verdict.TheVariants.{Unsat};
-ghost use Rattle.clause_store.specs.Store.{hard_of};
-ghost use Rattle.state_laws.specs.Held.{in_value};
 ghost use Rattle.state_laws.specs.Conditions.{IsContradicted};
-ghost use Rattle.state_laws.specs.Kernel.{state_of};
+ghost use Rattle.state_laws.specs.Kernel.{state_of, Standing};
+ghost use Rattle.search.specs.Answers.{IsInnerModel, AreFailed};
 ghost use Rattle.analyze.specs.Counting.{saturated};
 ghost use Rattle.one_solver.specs.Basic.{is_clause};
 ghost use Rattle.one_solver.specs.Learned.{HasFewLong};
-ghost use Rattle.one_solver.specs.Parts.{problem_in, SameCall};
+ghost use Rattle.one_solver.specs.Parts.{problem_in, SameCall, AssumesKnown};
+ghost use Rattle.one_solver.specs.Assuming.{IsMappedTo, AreContradicted};
 ghost use Rattle.one_solver.specs.Units.{FixesUnits, HasNoUnits};
-ghost use Rattle.one_solver.specs.Steps.{IsUnderWay, StepsRight, IsTidy, IsRefuted, HasNoModel, IsModelOrNone, IsOverOrNone};
+ghost use Rattle.one_solver.specs.Steps.{IsUnderWay, StepsRight, IsTidy, IsRefuted, HasNoModel, IsVerdictOrNone, IsOverOrNone};
 
 use crate::answer::StepAnswer;
 use crate::take::take_formula;
 use crate::tidy::tidy;
 use crate::units::fix_units;
 use analyze::Tally;
+use assume_map::{Mapped, failed_lits, map_assumptions};
 use private_state::PrivateState;
-use sat_lits::{Formula, List, Lit, NoMemory, Verdict};
+use sat_lits::{Formula, InLit, List, Lit, NoMemory, Verdict};
 use sat_ports::Alarm;
 use search::{IntervalAnswer, Search};
 use std::alloc::Global;
@@ -34,8 +36,8 @@ const KEPT_MORE: u64 = 100;
 
 /// One solver with a state of its own.
 ///
-/// It takes clauses alone today, and no assumptions. After want of memory from any call it still
-/// stands for the items that it took.
+/// It takes clauses alone today. After want of memory from any call it still stands for the items
+/// that it took.
 #[derive(Debug, Drop)]
 pub struct OneSolver {
     alloc: Global,
@@ -44,6 +46,7 @@ pub struct OneSolver {
     search: Search,
     tally: Tally,
     interval: u64,
+    assumptions: List<Lit>,
 }
 
 impl Model for OneSolver {
@@ -75,6 +78,7 @@ impl OneSolver {
             search: Search::new(alloc, number % 2 == 1),
             tally: Tally::new(),
             interval: 0,
+            assumptions: List::new(alloc),
         }
     }
 
@@ -93,12 +97,14 @@ impl OneSolver {
         take_formula(&mut self.state, formula)
     }
 
-    /// Starts a call, under no assumptions today: it made no conflict yet, and its first interval
-    /// comes next. Fixes the literals of the clauses of one literal until there is none. The only
-    /// error is want of memory.
+    /// Starts a call under assumptions, whose variables are there: it made no conflict yet, and its
+    /// first interval comes next. Fixes the literals of the clauses of one literal until there is
+    /// none. The only error is want of memory.
     pub fn begin_call(&mut self, assumptions: &[Lit]) -> Result<(), NoMemory>
-        requires { assumptions.now ≡ [] }
+        requires few { length assumptions.now < 2 ^ 32 }
+        requires known { IsTrue (names_known (problem_in self.old).vars (Clause assumptions.now)) }
         ensures begun { (self.new.conflicts ≡ 0) × (self.new.interval ≡ 0) }
+        ensures assumptions { OnOk result (self.new.assumptions ≡ assumptions.now) }
         ensures under_way { IsUnderWay self.new }
         ensures fixed { OnOk result (IsTrue self.new.kernel.okay → FixesUnits self.old.kernel self.new.kernel) }
         ensures left { OnOk result (IsTrue self.new.kernel.okay → HasNoUnits self.new.kernel) }
@@ -108,23 +114,28 @@ impl OneSolver {
     {
         self.tally = Tally::new();
         self.interval = 0;
+        self.assumptions.clear();
+        self.assumptions = List::from_slice(self.alloc, assumptions)?;
         fix_units(&mut self.state)
     }
 
     /// Runs one interval of the call that `begin_call` started, where each earlier step of it
     /// answered `IntervalOver` and its conflicts are at most the limit.
     ///
-    /// A verdict is right for the items taken; where the solver is not okay, it is `Unsat` of the
-    /// empty list. `IntervalOver` comes exactly where the interval made its full number of
-    /// conflicts without another answer, and the next interval is one longer. Then a solver that is
-    /// okay holds no hard clause of one literal, and the newest 2000 learned clauses of more than
-    /// two literals are left, and 100 more for each earlier interval of the call. `Spent` comes
-    /// exactly where the conflicts of the call equal the limit without a verdict, and only where the
-    /// limit is less than the number of conflicts that is enough for the items taken. `Asked` comes
-    /// only below the limit, where the count of `stop` rose in this call.
+    /// A verdict is right for the items taken and the assumptions of the call: `Unsat` comes with
+    /// assumptions that alone contradict the items, at rising positions, and no literal twice. Where
+    /// the solver is not okay, it is `Unsat` of the empty list. `IntervalOver` comes exactly where
+    /// the interval made its full number of conflicts without another answer, and the next interval
+    /// is one longer. Then a solver that is okay holds no hard clause of one literal, and the newest
+    /// 2000 learned clauses of more than two literals are left, and 100 more for each earlier
+    /// interval of the call. `Spent` comes exactly where the conflicts of the call equal the limit
+    /// without a verdict, and only where the limit is less than the number of conflicts that is
+    /// enough for the items taken. `Asked` comes only below the limit, where the count of `stop` rose
+    /// in this call.
     ///
     /// The conflicts of the call never exceed the limit, and after any answer but `IntervalOver` the
-    /// same interval comes next.
+    /// same interval comes next. The assumptions are mapped before each interval, since the literals
+    /// that were fixed after the last one may change what they come to.
     pub fn step<S: Alarm>(&mut self, limit: Option<u64>, stop: &mut S) -> StepAnswer
         requires under_way { IsUnderWay self.old }
         requires within { IfSome limit (λ most. self.old.conflicts ≤ most) }
@@ -133,6 +144,7 @@ impl OneSolver {
         ensures problem { problem_in self.new ≡ problem_in self.old }
         ensures number { self.new.number ≡ self.old.number }
         ensures interval { result ≢ StepAnswer.IntervalOver → self.new.interval ≡ self.old.interval }
+        ensures assumptions { self.new.assumptions ≡ self.old.assumptions }
         ensures more { self.old.conflicts ≤ self.new.conflicts }
         ensures within { IfSome limit (λ most. self.new.conflicts ≤ most) }
         ensures stop { S.kept stop.old stop.new }
@@ -141,18 +153,50 @@ impl OneSolver {
         if !self.state.okay() {
             return StepAnswer::Verdict(Verdict::Unsat(List::new(self.alloc)));
         }
+        match map_assumptions(self.alloc, &self.state, self.assumptions.as_slice()) {
+            Ok(Mapped::Ready { lits, positions }) => {
+                self.search_under(lits.as_slice(), positions.as_slice(), limit, stop)
+            }
+            Ok(Mapped::Clash(positions)) => self.fails(positions.as_slice()),
+            Err(NoMemory) => StepAnswer::Memory,
+        }
+    }
+
+    /// Runs the interval under the literals that the assumptions were mapped to.
+    fn search_under<S: Alarm>(
+        &mut self,
+        lits: &[InLit],
+        positions: &[u32],
+        limit: Option<u64>,
+        stop: &mut S,
+    ) -> StepAnswer
+        requires okay { IsTrue self.old.kernel.okay }
+        requires standing { Standing self.old.kernel }
+        requires ready { IsMappedTo self.old lits.now positions.now }
+        requires under_way { IsUnderWay self.old }
+        requires within { IfSome limit (λ most. self.old.conflicts ≤ most) }
+        ensures right { StepsRight self.old self.new limit (S.raises stop.old) (S.raises stop.new) result }
+        ensures problem { problem_in self.new ≡ problem_in self.old }
+        ensures number { self.new.number ≡ self.old.number }
+        ensures interval { result ≢ StepAnswer.IntervalOver → self.new.interval ≡ self.old.interval }
+        ensures assumptions { self.new.assumptions ≡ self.old.assumptions }
+        ensures more { self.old.conflicts ≤ self.new.conflicts }
+        ensures within { IfSome limit (λ most. self.new.conflicts ≤ most) }
+        ensures stop { S.kept stop.old stop.new }
+        ensures later { S.raises stop.old ≤ S.raises stop.new }
+    {
         let left = left_of(limit, self.tally.count());
         let answer = self.search.run_interval(
             &mut self.state,
-            &[],
+            lits,
             self.interval,
             left,
             stop,
             &mut self.tally,
         );
         match answer {
-            IntervalAnswer::Model(values) => self.sat(values.as_slice()),
-            IntervalAnswer::Failed(_) => self.unsat(),
+            IntervalAnswer::Model(values) => self.sat(lits, positions, values.as_slice()),
+            IntervalAnswer::Failed(failed) => self.unsat_under(lits, positions, failed.as_slice()),
             IntervalAnswer::IntervalOver => self.end_interval(),
             IntervalAnswer::Spent => StepAnswer::Spent {
                 count: self.tally.count(),
@@ -199,15 +243,53 @@ impl OneSolver {
         self.state.okay()
     }
 
-    /// Answers a model, rebuilt from values of the inner numbers that satisfy the hard clauses.
-    fn sat(&self, values: &[bool]) -> StepAnswer
+    /// Answers a model, rebuilt from values of the inner numbers that satisfy the hard clauses and
+    /// the literals that the assumptions were mapped to.
+    fn sat(&self, lits: &[InLit], positions: &[u32], values: &[bool]) -> StepAnswer
         requires okay { IsTrue self.now.kernel.okay }
-        requires long { length values.now ≡ length self.now.kernel.maps.owners }
-        requires satisfied { IsTrue (clauses_value (in_value values.now) (hard_of self.now.kernel.store.held)) }
-        ensures { IsModelOrNone (problem_in self.now) result }
+        requires assumed { AssumesKnown self.now }
+        requires ready { IsMappedTo self.now lits.now positions.now }
+        requires model { IsInnerModel self.now.kernel lits.now values.now }
+        ensures { IsVerdictOrNone (problem_in self.now) self.now.assumptions result }
     {
+        // That the maps match is known from here on.
+        let _len = self.state.maps().own_len();
         match self.state.outer_model(values) {
             Ok(model) => StepAnswer::Verdict(Verdict::Sat(model)),
+            Err(NoMemory) => StepAnswer::Memory,
+        }
+    }
+
+    /// Answers that there is no model under the assumptions, by failed ones of the literals that
+    /// they were mapped to. Where none is needed the state is refuted.
+    fn unsat_under(&mut self, lits: &[InLit], positions: &[u32], failed: &[u32]) -> StepAnswer
+        requires assumed { AssumesKnown self.old }
+        requires ready { IsMappedTo self.old lits.now positions.now }
+        requires failed { AreFailed self.old.kernel.store.held lits.now failed.now }
+        ensures answer { IsVerdictOrNone (problem_in self.old) self.old.assumptions result }
+        ensures same { self.new ≡ record self.old { kernel = self.new.kernel } }
+        ensures problem { problem_in self.new ≡ problem_in self.old }
+    {
+        if failed.is_empty() {
+            return self.unsat();
+        }
+        // That the state stands is known from here on.
+        let _okay = self.state.okay();
+        match positions_at(self.alloc, positions, failed) {
+            Ok(failed) => self.fails(failed.as_slice()),
+            Err(NoMemory) => StepAnswer::Memory,
+        }
+    }
+
+    /// Answers that there is no model under the assumptions at these positions.
+    fn fails(&self, positions: &[u32]) -> StepAnswer
+        requires rising { IsStrictlyIncreasing positions.now }
+        requires within { IsTrue (list_all (λ p. nat_lt p (length self.now.assumptions)) positions.now) }
+        requires contradict { AreContradicted (problem_in self.now) self.now.assumptions positions.now }
+        ensures { IsVerdictOrNone (problem_in self.now) self.now.assumptions result }
+    {
+        match failed_lits(self.alloc, self.assumptions.as_slice(), positions) {
+            Ok(failed) => StepAnswer::Verdict(Verdict::Unsat(failed)),
             Err(NoMemory) => StepAnswer::Memory,
         }
     }
@@ -231,6 +313,7 @@ impl OneSolver {
         ensures over { result ≡ StepAnswer.IntervalOver → IsTidy self.old.interval self.new }
         ensures interval { result ≢ StepAnswer.IntervalOver → self.new.interval ≡ self.old.interval }
         ensures conflicts { self.new.conflicts ≡ self.old.conflicts }
+        ensures assumptions { self.new.assumptions ≡ self.old.assumptions }
         ensures problem { problem_in self.new ≡ problem_in self.old }
         ensures number { self.new.number ≡ self.old.number }
     {
@@ -265,4 +348,16 @@ fn left_of(limit: Option<u64>, made: u64) -> Option<u64>
         Some(most) => Some(most - made),
         None => None,
     }
+}
+
+/// The positions at which these places of a list of positions stand.
+fn positions_at(alloc: Global, positions: &[u32], places: &[u32]) -> Result<List<u32>, NoMemory>
+    requires { IsTrue (list_all (λ p. nat_lt p (length positions.now)) places.now) }
+    ensures { IfOk result (λ found. found ≡ map (λ p. slice_index positions.now p) places.now) }
+{
+    let mut found = List::new(alloc);
+    for place in places {
+        found.push(positions[*place as usize])?;
+    }
+    Ok(found)
 }

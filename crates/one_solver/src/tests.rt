@@ -1,5 +1,7 @@
 ghost use Rattle.std.specs.Prelude.{◌≡◌, IfOk};
 ghost use Rattle.std.specs.List.{list_all};
+ghost use Rattle.sat_lits.specs.Formulas.{names_known};
+ghost use Rattle.sat_lits.specs.declared.formula.Item.TheVariants.{Clause};
 ghost use Rattle.one_solver.specs.Basic.{is_clause};
 ghost use Rattle.one_solver.specs.Steps.{IsUnderWay};
 
@@ -49,10 +51,31 @@ fn start(rt: &impl Abort, alloc: Global, formula: &Formula) -> Result<OneSolver,
     ensures under_way { IfOk result (λ solver. IsUnderWay solver) }
     ensures conflicts { IfOk result (λ solver. solver.conflicts ≡ 0) }
 {
+    start_under(rt, alloc, formula, &[])
+}
+
+fn are_known(vars: u32, lits: &[Lit]) -> bool
+    ensures { result ≡ names_known vars (Clause lits.now) }
+{
+    lits.iter().map(|lit| lit.var.0).all(|var| var < vars)
+}
+
+/// The same under assumptions.
+fn start_under(
+    rt: &impl Abort,
+    alloc: Global,
+    formula: &Formula,
+    assumptions: &[Lit],
+) -> Result<OneSolver, NoMemory>
+    ensures under_way { IfOk result (λ solver. IsUnderWay solver) }
+    ensures conflicts { IfOk result (λ solver. solver.conflicts ≡ 0) }
+{
     assert!(rt; are_clauses(formula.items()));
+    assert!(rt; are_known(formula.vars(), assumptions));
+    assert!(rt; assumptions.len() <= 100);
     let mut solver = OneSolver::new(alloc, 0);
     solver.absorb(formula)?;
-    solver.begin_call(&[])?;
+    solver.begin_call(assumptions)?;
     Ok(solver)
 }
 
@@ -114,6 +137,44 @@ fn a_satisfiable_formula_has_its_model(rt: HostRuntime) -> Result<(), Fail> {
         return Err("no model")?;
     };
     assert_eq!(rt; values.as_slice(), [true, true].as_slice());
+    Ok(())
+}
+
+/// The failed assumptions of a formula, in DIMACS form.
+fn failed_of(
+    rt: &impl Abort,
+    alloc: Global,
+    formula: &Formula,
+    assumptions: &[Lit],
+) -> Result<List<Lit>, Fail> {
+    let mut solver = start_under(rt, alloc, formula, assumptions)?;
+    match step(&mut solver) {
+        StepAnswer::Verdict(Verdict::Unsat(failed)) => Ok(failed),
+        _ => Err("a model")?,
+    }
+}
+
+#[test]
+fn an_assumption_fails(rt: HostRuntime) -> Result<(), Fail> {
+    let formula = formula_of(rt.alloc(), 2, &[&[1, 2], &[-1, 2], &[1, -2]])?;
+    let failed = failed_of(&rt, rt.alloc(), &formula, &[literal(-1)])?;
+    assert_eq!(rt; failed.as_slice(), [literal(-1)].as_slice());
+    Ok(())
+}
+
+#[test]
+fn assumptions_that_are_fixed_false_or_opposite_fail(rt: HostRuntime) -> Result<(), Fail> {
+    let formula = formula_of(rt.alloc(), 3, &[&[-1]])?;
+    let fixed = failed_of(
+        &rt,
+        rt.alloc(),
+        &formula,
+        &[literal(2), literal(1), literal(1)],
+    )?;
+    assert_eq!(rt; fixed.as_slice(), [literal(1)].as_slice());
+    let assumptions = [literal(-1), literal(3), literal(2), literal(-3)];
+    let opposite = failed_of(&rt, rt.alloc(), &formula, &assumptions)?;
+    assert_eq!(rt; opposite.as_slice(), [literal(3), literal(-3)].as_slice());
     Ok(())
 }
 

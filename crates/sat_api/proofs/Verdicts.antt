@@ -28,12 +28,12 @@ pub negated_follow : (f : Problem) (assumptions failed : List Lit) → IsFailed 
 negated_follow f assumptions failed h values m = one_false values failed (h.contradict values m)
 
 -- failed assumptions that were found, in a verdict that was found
-pub found_failed : (f : Problem) (limit : Option ℕ) (conflicts : ℕ) (found : Finding) (verdict : Verdict) (failed : List Lit) → found ≡ decision.Verdict verdict → verdict ≡ Unsat failed → IsFound f limit conflicts found → IsFailed f [] failed
-found_failed f limit conflicts found verdict failed e v h =
-    let P : Finding → Type 0 = λ x. IsFound f limit conflicts x in
-    let Q : Verdict → Type 0 = λ x. IsRight f [] x in
+pub found_failed : (f : Problem) (assumptions : List Lit) (limit : Option ℕ) (conflicts : ℕ) (found : Finding) (verdict : Verdict) (failed : List Lit) → found ≡ decision.Verdict verdict → verdict ≡ Unsat failed → IsFound f assumptions limit conflicts found → IsFailed f assumptions failed
+found_failed f assumptions limit conflicts found verdict failed e v h =
+    let P : Finding → Type 0 = λ x. IsFound f assumptions limit conflicts x in
+    let Q : Verdict → Type 0 = λ x. IsRight f assumptions x in
     subst Q v (subst P e h)
 
--- where no assumptions fail, there is no model under any
-pub none_under : (f : Problem) (failed assumptions : List Lit) → IsFailed f [] failed → HasModelUnder f assumptions → ⊥
-none_under f failed assumptions h (values, model, made) = true≢false (sym (makes_true-StandAt values [] h.positions failed h.places refl) ∙ h.contradict values model)
+-- where assumptions fail, there is no model under them
+pub none_under : (f : Problem) (failed assumptions : List Lit) → IsFailed f assumptions failed → HasModelUnder f assumptions → ⊥
+none_under f failed assumptions h (values, model, made) = true≢false (sym (makes_true-StandAt values assumptions h.positions failed h.places made) ∙ h.contradict values model)

@@ -8,6 +8,7 @@ invariant-intervals l = record {
   under_way : IsUnderWay l.solver;
   within : IfSome l.limit (λ m. l.solver.conflicts ≤ m);
   problem : problem_in l.solver ≡ l.formula.problem;
+  assumptions : l.solver.assumptions ≡ l.assumptions;
 }
 
 abbrev pub decreases-intervals : goal.decreases-intervals

@@ -1,66 +1,69 @@
-use Rattle.std.proofs.Common.{◌≡◌, ◌≤◌, ◌-◌, ℕ, [], List, Option, length, option_map, IfSome, subst, sym, ap, ◌∙◌}
-use Rattle.sat_lits.specs.Conflicts.{own_count}
+use Rattle.std.proofs.Common.{◌≡◌, ℕ, true, nat_lt, length, List, [], sym, ap, subst, ◌∙◌}
+use Rattle.std.specs.List.{list_all}
+use Rattle.std.specs.List.Sorted.{IsStrictlyIncreasing}
 use Rattle.sat_lits.specs.Verdicts.{IsFailed}
 use Rattle.sat_lits.specs.declared.literal.Lit.{Lit}
-use Rattle.state_laws.specs.State.{problem_of}
-use Rattle.state_laws.specs.Kernel.{Kernel, state_of}
-use Rattle.search.specs.Answers.{IsBelow}
+use Rattle.sat_lits.specs.declared.literal.InLit.{InLit}
+use Rattle.state_laws.specs.Conditions.{Takable}
+use Rattle.state_laws.specs.Kernel.{Kernel, state_of, Standing}
+use Rattle.assume_map.specs.Roots.{roots}
+use Rattle.assume_map.specs.Mapping.{IsMapped, IsClash}
+use Rattle.assume_map.specs.MappingLaws.{clash_rises, clash_within}
+use Rattle.assume_map.specs.declared.mapped.Mapped.{Mapped}
+use Rattle.one_solver.specs.Basic.{IsBasic}
+use Rattle.one_solver.specs.Assuming.{IsMappedTo, AreContradicted}
 use Rattle.one_solver.specs.Kept.{parts_of}
-use Rattle.one_solver.specs.Parts.{Parts, problem_in}
-use Rattle.one_solver.specs.Steps.{IsUnderWay, StepsRight, SpendsLimit, HasNoModel}
-use Rattle.one_solver.specs.declared.answer.StepAnswer.{StepAnswer}
-use Rattle.one_solver.proofs.Refuting.{no_model, failed_contradicted}
-use Rattle.one_solver.proofs.Counting.{own_few, spends, ends, over_right, none_fails}
+use Rattle.one_solver.specs.Parts.{Parts, problem_in, AssumesKnown}
+use Rattle.one_solver.specs.Steps.{IsUnderWay, StepsRight, HasNoModel}
+use Rattle.one_solver.proofs.Refuting.{no_model}
+use Rattle.one_solver.proofs.Counting.{none_fails, verdict_right}
+use Rattle.one_solver.proofs.Assumptions.{takable, roots_long, clash_contradicted}
 use Rattle.one_solver.proofs.solver.OneSolver.step.Goals as goal
-use Rattle.one_solver.proofs.solver.OneSolver.step.Goals.{After-left_of-left}
 use Rattle.one_solver.proofs.solver.OneSolver.step.Given.{Over}
-
--- what is left of the limit, of the conflicts that were made before
-left : (g : Over) (c : After-left_of-left g) → c.left_of-left.result ≡ option_map (λ m. m - c.self.inside.tally) c.args.limit
-left g c = c.left_of-left.ensures.value ∙ ap (λ (n : ℕ). option_map (λ m. m - n) c.args.limit) c.count.ensures
-
--- they were within the limit
-within : (g : Over) (c : After-left_of-left g) → IfSome c.args.limit (λ m. c.self.inside.tally ≤ m)
-within g c = subst (λ (s : Parts). IfSome c.args.limit (λ m. s.conflicts ≤ m)) (sym c.self.view_is) c.requires.within
-
-under_way : (g : Over) (c : After-left_of-left g) → IsUnderWay (parts_of c.self.inside)
-under_way g c = subst (λ (s : Parts). IsUnderWay s) (sym c.self.view_is) c.requires.under_way
-
--- there are few own variables
-few : (g : Over) (c : After-left_of-left g) → length c.self.inside.state.maps.inners ≤ own_count (problem_in (parts_of c.self.inside))
-few g c = own_few c.self.inside.state c.okay.ensures.standing c.self.invariant
+use Rattle.one_solver.proofs.solver.OneSolver.step.Goals.{In-Ok-Clash}
 
 pub returns-then-not-okay-clause-right : goal.returns-then-not-okay-clause-right
 returns-then-not-okay-clause-right g c =
     let none : HasNoModel (problem_in (parts_of c.self.inside)) = no_model c.self.inside.state c.okay.ensures.standing c.self.invariant (sym c.okay.ensures.value ∙ c.if-not-okay.true) in
-    subst (λ (ls : List Lit). IsFailed (problem_in c.args.self.now) [] ls) (sym c.new.ensures)
-    (none_fails (problem_in c.args.self.now) (subst (λ (s : Parts). HasNoModel (problem_in s)) c.self.view_is none))
+    subst (λ (ls : List Lit). IsFailed (problem_in c.args.self.now) c.args.self.now.assumptions ls) (sym c.new.ensures)
+    (none_fails (problem_in c.args.self.now) c.args.self.now.assumptions (subst (λ (s : Parts). HasNoModel (problem_in s)) c.self.view_is none))
 
-pub unsat-requires : goal.unsat-requires
-unsat-requires g c = failed_contradicted c.run_interval-answer.new.state c.in-Failed.field-0 c.in-Failed.ensures.right
+pub map_assumptions-requires-clause-takable : goal.map_assumptions-requires-clause-takable
+map_assumptions-requires-clause-takable g c =
+    subst (λ (ls : List Lit). Takable (state_of c.self.inside.state) ls) (sym c.as_slice.ensures)
+    (takable (parts_of c.self.inside) c.self.invariant (subst (λ (s : Parts). AssumesKnown s) (sym c.self.view_is) c.requires.under_way.assumed))
 
-pub returns-in-Failed-clause-right : goal.returns-in-Failed-clause-right
-returns-in-Failed-clause-right g c =
-    let none : HasNoModel (problem_in (parts_of c.self.inside)) = subst (λ (k : Kernel). HasNoModel (problem_of (state_of k))) c.in-Failed.ensures.learned.same c.unsat.ensures.right in
-    subst (λ (answer : StepAnswer). StepsRight c.args.self.now c.unsat.new.self c.args.limit (g.S.Alarm.raises c.args.stop.now) (g.S.Alarm.raises c.run_interval-answer.new.stop) answer) (sym c.unsat.ensures.answer)
-    (none_fails (problem_in c.args.self.now) (subst (λ (s : Parts). HasNoModel (problem_in s)) c.self.view_is none))
+-- what the assumptions of the call were mapped to
+mapped : (s : Parts) (inside : Kernel) (assumptions : List Lit) (m : Mapped) → inside ≡ s.kernel → assumptions ≡ s.assumptions → IsMapped inside assumptions m → IsMapped s.kernel s.assumptions m
+mapped s inside assumptions m e f h = subst (λ (k : Kernel). IsMapped k s.assumptions m) e (subst (λ (ls : List Lit). IsMapped inside ls m) f h)
 
-pub returns-in-IntervalOver-clause-right : goal.returns-in-IntervalOver-clause-right
-returns-in-IntervalOver-clause-right g c =
-    let d : After-left_of-left g = (goal.at.returns-in-IntervalOver-clause-right g c).After-left_of-left in
-    let old : Parts = parts_of c.self.inside in
-    let made : ℕ = c.run_interval-answer.new.self in
-    subst (λ (s : Parts). StepsRight s c.end_interval.new.self c.args.limit (g.S.Alarm.raises c.args.stop.now) (g.S.Alarm.raises c.run_interval-answer.new.stop) c.end_interval.result) c.self.view_is
-    (over_right old c.end_interval.new.self c.args.limit (g.S.Alarm.raises c.args.stop.now) (g.S.Alarm.raises c.run_interval-answer.new.stop) c.end_interval.result c.end_interval.ensures.answer
-    (λ e. ends old c.end_interval.new.self c.args.limit made (length old.kernel.maps.inners) (under_way g d) (within g d) c.in-IntervalOver.ensures.ends.0
-    (subst (λ (o : Option ℕ). IsBelow made o) (left g d) c.in-IntervalOver.ensures.ends.1) c.in-IntervalOver.ensures.own (few g d) (c.end_interval.ensures.conflicts ∙ c.in-IntervalOver.ensures.tallied) (c.end_interval.ensures.over e)
-    (c.end_interval.ensures.problem ∙ ap (λ (k : Kernel). problem_of (state_of k)) c.in-IntervalOver.ensures.learned.same)))
+pub search_under-requires-clause-ready : goal.search_under-requires-clause-ready
+search_under-requires-clause-ready g c =
+    let m : IsMappedTo c.args.self.now c.in-Ok-Ready.lits c.in-Ok-Ready.positions =
+    subst (λ (x : Mapped). IsMapped c.args.self.now.kernel c.args.self.now.assumptions x) c.in-Ok-Ready.field-0-is
+    (mapped c.args.self.now c.self.inside.state c.as_slice.result.now c.in-Ok-Ready.field-0 (ap (λ (s : Parts). s.kernel) c.self.view_is) (c.as_slice.ensures ∙ ap (λ (s : Parts). s.assumptions) c.self.view_is) c.in-Ok-Ready.ensures) in
+    subst (λ (ls : List InLit). IsMappedTo c.args.self.now ls c.as_slice-in-Ok-Ready-2.result.now) (sym c.as_slice-in-Ok-Ready.ensures)
+    (subst (λ (ps : List ℕ). IsMappedTo c.args.self.now c.in-Ok-Ready.lits ps) (sym c.as_slice-in-Ok-Ready-2.ensures) m)
 
-pub returns-in-Spent-clause-right : goal.returns-in-Spent-clause-right
-returns-in-Spent-clause-right g c =
-    let d : After-left_of-left g = (goal.at.returns-in-Spent-clause-right g c).After-left_of-left in
-    let old : Parts = parts_of c.self.inside in
-    let new : Parts = record old { kernel = c.run_interval-answer.new.state; conflicts = c.run_interval-answer.new.tally } in
-    subst (λ (s : Parts). SpendsLimit (problem_in s) c.args.limit new.conflicts c.count-in-Spent.result) c.self.view_is
-    (spends old new c.args.limit c.run_interval-answer.new.self (length old.kernel.maps.inners) c.count-in-Spent.result (under_way g d) (within g d) c.left_of-left.ensures.range (sym (left g d) ∙ c.in-Spent.ensures.ends.0)
-    c.in-Spent.ensures.own (few g d) c.in-Spent.ensures.tallied c.count-in-Spent.ensures)
+-- the positions of a clash
+clash : (g : Over) (c : In-Ok-Clash g) → IsClash (roots (state_of c.args.self.now.kernel) c.args.self.now.assumptions) c.in-Ok-Clash.positions
+clash g c =
+    subst (λ (x : Mapped). IsMapped c.args.self.now.kernel c.args.self.now.assumptions x) c.in-Ok-Clash.field-0-is
+    (mapped c.args.self.now c.self.inside.state c.as_slice.result.now c.in-Ok-Clash.field-0 (ap (λ (s : Parts). s.kernel) c.self.view_is) (c.as_slice.ensures ∙ ap (λ (s : Parts). s.assumptions) c.self.view_is) c.in-Ok-Clash.ensures)
+
+pub fails-requires-clause-rising : goal.fails-requires-clause-rising
+fails-requires-clause-rising g c =
+    subst (λ (ps : List ℕ). IsStrictlyIncreasing ps) (sym c.as_slice-in-Ok-Clash.ensures)
+    (clash_rises (roots (state_of c.args.self.now.kernel) c.args.self.now.assumptions) c.in-Ok-Clash.positions (clash g ((goal.at.fails-requires-clause-rising g c).In-Ok-Clash)))
+
+pub fails-requires-clause-within : goal.fails-requires-clause-within
+fails-requires-clause-within g c =
+    subst (λ (ps : List ℕ). list_all (λ p. nat_lt p (length c.args.self.now.assumptions)) ps ≡ true) (sym c.as_slice-in-Ok-Clash.ensures)
+    (subst (λ (n : ℕ). list_all (λ p. nat_lt p n) c.in-Ok-Clash.positions ≡ true) (roots_long c.args.self.now)
+    (clash_within (roots (state_of c.args.self.now.kernel) c.args.self.now.assumptions) c.in-Ok-Clash.positions (clash g ((goal.at.fails-requires-clause-within g c).In-Ok-Clash))))
+
+pub fails-requires-clause-contradict : goal.fails-requires-clause-contradict
+fails-requires-clause-contradict g c =
+    subst (λ (ps : List ℕ). AreContradicted (problem_in c.args.self.now) c.args.self.now.assumptions ps) (sym c.as_slice-in-Ok-Clash.ensures)
+    (clash_contradicted c.args.self.now c.in-Ok-Clash.positions (subst (λ (s : Parts). Standing s.kernel) c.self.view_is c.okay.ensures.standing) (subst (λ (s : Parts). IsBasic s.kernel) c.self.view_is c.self.invariant) c.requires.under_way.assumed
+    (clash g ((goal.at.fails-requires-clause-contradict g c).In-Ok-Clash)))

@@ -15,13 +15,13 @@ some_same a b e = cc
 pub invariant_of-self-in-Verdict-Unsat : goal.invariant_of-self-in-Verdict-Unsat
 invariant_of-self-in-Verdict-Unsat g c =
     let f : Problem = c.self.inside.formula.problem in
-    let failed : IsFailed f [] c.in-Verdict-Unsat.failed = found_failed f c.self.inside.max_conflicts _ c.in_ok-values.field-0 c.in-Verdict-Unsat.field-0 c.in-Verdict-Unsat.failed c.in-Verdict-Unsat.is c.in-Verdict-Unsat.field-0-is c.in_ok-values.ensures.found in
+    let failed : IsFailed f c.args.assumptions.now c.in-Verdict-Unsat.failed = found_failed f c.args.assumptions.now c.self.inside.max_conflicts _ c.in_ok-values.field-0 c.in-Verdict-Unsat.field-0 c.in-Verdict-Unsat.failed c.in-Verdict-Unsat.is c.in-Verdict-Unsat.field-0-is c.in_ok-values.ensures.found in
     record {
       backed = record {
         model = λ values e. absurd (let none : ◌≡◌ {A = Option (List Bool)} None (Some values) = e in cc);
         conflict = λ lits e.
             let same : c.negate.new.self ≡ lits = some_same _ lits e in
-            subst (λ (ls : List Lit). Follows f ls) (sym c.negate.ensures ∙ same) (negated_follow f [] c.in-Verdict-Unsat.failed failed);
+            subst (λ (ls : List Lit). Follows f ls) (sym c.negate.ensures ∙ same) (negated_follow f c.args.assumptions.now c.in-Verdict-Unsat.failed failed);
       };
       front = subst (λ (s : Parts). Extends (problem_in s) f) (sym c.pour.ensures.emptied) c.decide-found.ensures.front;
       clauses = c.self.invariant.clauses;
@@ -31,5 +31,5 @@ pub returns-in-Verdict-Unsat-clause-decided :
     goal.returns-in-Verdict-Unsat-clause-decided
 returns-in-Verdict-Unsat-clause-decided g c =
     let f : Problem = c.self.inside.formula.problem in
-    let failed : IsFailed f [] c.in-Verdict-Unsat.failed = found_failed f c.self.inside.max_conflicts _ c.in_ok-values.field-0 c.in-Verdict-Unsat.field-0 c.in-Verdict-Unsat.failed c.in-Verdict-Unsat.is c.in-Verdict-Unsat.field-0-is c.in_ok-values.ensures.found in
+    let failed : IsFailed f c.args.assumptions.now c.in-Verdict-Unsat.failed = found_failed f c.args.assumptions.now c.self.inside.max_conflicts _ c.in_ok-values.field-0 c.in-Verdict-Unsat.field-0 c.in-Verdict-Unsat.failed c.in-Verdict-Unsat.is c.in-Verdict-Unsat.field-0-is c.in_ok-values.ensures.found in
     subst (λ (s : SolverState). HasModelUnder s.problem c.args.assumptions.now → ⊥) c.self.view_is (none_under f c.in-Verdict-Unsat.failed c.args.assumptions.now failed)
