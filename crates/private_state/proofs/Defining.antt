@@ -1,16 +1,14 @@
 -- A private variable is defined.
-use Rattle.std.proofs.Common.{◌≡◌, ℕ, ◌+◌, ◌<◌, ◌≤◌, ◌==◌, Bool, true, false, not, cond, nat_lt, nat_le, ltb, ◌&&◌, ◌||◌, List, [], ◌∷◌, ◌++◌, Option, Some, None, is_some, length, map, refl, sym, ap, ap₂, subst, ◌∙◌, arith, ltb-true, lt-ltb, eq-eqb, ne_eqb, eqb-true}
-use Rattle.std.proofs.lemmas.Bool.{and_parts, and_from, or_parts, or_left, or_right, not-true, eqb-false, le-leb, false≢true}
-use Rattle.std.proofs.lemmas.List.{map-append}
-use Rattle.std.proofs.lemmas.List.Folds.{list_all-append, list_all-map, list_any-append}
+use Rattle.std.proofs.Common.{◌≡◌, ℕ, ◌+◌, ◌<◌, ◌==◌, Bool, true, false, not, nat_lt, nat_le, ltb, ◌&&◌, ◌||◌, List, [], ◌∷◌, ◌++◌, Option, Some, is_some, length, map, refl, sym, ap, ap₂, ◌∙◌, arith, ltb-true, lt-ltb, eq-eqb, ne_eqb}
+use Rattle.std.proofs.lemmas.Bool.{and_parts, and_from, or_parts, or_left, or_right, not-true, eqb-false, le-leb}
+use Rattle.std.proofs.lemmas.List.Folds.{list_all-map}
 use Rattle.std.specs.Bool.{beq}
 use Rattle.std.specs.List.{list_all, list_any}
-use Rattle.sat_lits.specs.Truth.{signed, clause_value, clauses_value}
-use Rattle.sat_lits.specs.ListLaws.{all_mono, any_mono, any_map, all_push}
+use Rattle.sat_lits.specs.Truth.{clauses_value}
+use Rattle.sat_lits.specs.ListLaws.{all_mono, all_push}
 use Rattle.sat_lits.specs.ClauseLaws.{beq_true, signed_not}
 use Rattle.sat_lits.specs.declared.literal.Own.{Own}
 use Rattle.sat_lits.specs.declared.literal.OwnLit.{OwnLit}
-use Rattle.sat_lits.specs.declared.literal.InLit.{InLit}
 use Rattle.rebuild_stack.specs.Values.{own_value, each_lit}
 use Rattle.rebuild_stack.specs.Roots.{turned}
 use Rattle.rebuild_stack.specs.PutIn.{is_clean, same_lit}
@@ -18,14 +16,14 @@ use Rattle.var_maps.specs.Maps.{Maps, Matched, inner_at}
 use Rattle.xor_cut.specs.Pieces.{are_different, own_var, own_vars}
 use Rattle.state_laws.specs.declared.definition.Definition.{Definition}
 use Rattle.state_laws.specs.declared.definition.Definition.TheVariants.{Xor, And}
-use Rattle.state_laws.specs.State.{State, is_active, is_as_defined}
+use Rattle.state_laws.specs.State.{State, is_active}
 use Rattle.state_laws.specs.Stands.{IsPlaced}
 use Rattle.state_laws.specs.Conditions.{Defines}
 use Rattle.state_laws.specs.Kernel.{Kernel, state_of, Standing}
 use Rattle.state_laws.specs.Held.{own_of, own_or, own_clause}
 use Rattle.state_laws.specs.ViewLaws.{get_is_some}
-use Rattle.private_state.specs.Parities.{lit_of, in_lit_of, parity_clauses, number_of, defining_clauses, variables_of, IsDefinable}
-use Rattle.private_state.specs.InMaps.{may_be_named, stored_lit, in_negated, next_number, stored_xor, stored_and, stored_definition}
+use Rattle.private_state.specs.Parities.{lit_of, in_lit_of, number_of, defining_clauses, variables_of, IsDefinable}
+use Rattle.private_state.specs.InMaps.{may_be_named, stored_lit, in_negated, next_number, stored_definition}
 use Rattle.private_state.proofs.PieceChain.{are_active, active_below, xor_Defines}
 use Rattle.private_state.proofs.StoredForms.{is_named, named_owner, stored_own, stored_distinct}
 use Rattle.private_state.proofs.KernelParity.{inners_len, tables_made}

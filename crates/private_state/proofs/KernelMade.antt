@@ -1,8 +1,6 @@
 -- A kernel in which private variables are made and clauses are held.
-use Rattle.std.proofs.Common.{◌≡◌, ℕ, zero, suc, ◌+◌, ◌-◌, ◌<◌, ◌≤◌, ◌==◌, Bool, true, false, not, cond, nat_lt, nat_le, ◌||◌, List, [], ◌∷◌, ◌++◌, Option, Some, None, is_some, length, map, flat_map, replicate, get_or, refl, sym, ap, ap₂, subst, ◌∙◌, arith, append-nil, append_assoc}
-use Rattle.std.proofs.lemmas.Bool.{and_parts, and_from}
-use Rattle.std.proofs.lemmas.List.{map-append, length-map, length_push, length-append, get_or_append_left, replicate-append-replicate}
-use Rattle.std.specs.List.{list_all}
+use Rattle.std.proofs.Common.{◌≡◌, ℕ, zero, suc, ◌+◌, ◌<◌, Bool, true, false, not, List, [], ◌∷◌, ◌++◌, Option, Some, None, is_some, length, map, replicate, get_or, refl, sym, ap, ap₂, subst, ◌∙◌, arith, append-nil, append_assoc}
+use Rattle.std.proofs.lemmas.List.{map-append, get_or_append_left, replicate-append-replicate}
 use Rattle.sat_lits.specs.declared.literal.Own.{Own}
 use Rattle.sat_lits.specs.declared.literal.OwnLit.{OwnLit}
 use Rattle.sat_lits.specs.declared.literal.Var.{Var}
@@ -13,7 +11,7 @@ use Rattle.xor_cut.specs.Pieces.{own_var, own_vars}
 use Rattle.state_laws.specs.declared.definition.Definition.{Definition}
 use Rattle.state_laws.specs.State.{State, outers_from}
 use Rattle.state_laws.specs.Stands.{Stands}
-use Rattle.state_laws.specs.Held.{InClause, OwnClause, own_clauses, in_own, hard_clause, ExtendsBy}
+use Rattle.state_laws.specs.Held.{InClause, in_own, hard_clause, ExtendsBy}
 use Rattle.state_laws.specs.Kernel.{Kernel, state_of, Standing, Longer}
 use Rattle.state_laws.specs.ExtendLaws.{outers_from-append}
 use Rattle.state_laws.specs.ViewLaws.{state_of_parts, clauses_of, clauses_of-append, listed, listed-hard, listed-none, news_of, view_clauses, past_active}

@@ -1,12 +1,12 @@
 -- A kernel takes a parity.
-use Rattle.std.proofs.Common.{◌≡◌, ℕ, ◌+◌, ◌<◌, ◌≤◌, ◌^◌, Bool, true, false, nat_lt, nat_le, ltb, ◌&&◌, ◌||◌, List, [], ◌∷◌, ◌++◌, Option, Some, None, is_some, length, map, get_or, refl, sym, ap, ap₂, subst, ◌∙◌, arith}
+use Rattle.std.proofs.Common.{◌≡◌, ℕ, ◌+◌, ◌≤◌, ◌^◌, Bool, true, false, nat_lt, nat_le, ◌&&◌, List, ◌++◌, Option, Some, is_some, length, map, refl, sym, ap, ap₂, subst, ◌∙◌, arith}
 use Rattle.std.proofs.Math.Path.{fun_ext}
 use Rattle.std.proofs.lemmas.Bool.{and_from, or_left, or_right, le-leb, lt-ltb}
 use Rattle.std.proofs.lemmas.List.{length-map, length-append}
 use Rattle.std.proofs.lemmas.List.Folds.{list_all-map}
 use Rattle.std.specs.List.{list_all}
 use Rattle.sat_lits.specs.ListLaws.{all_mono}
-use Rattle.sat_lits.specs.Conflicts.{odd_vars, cuts, cuts_of_count}
+use Rattle.sat_lits.specs.Conflicts.{odd_vars, cuts_of_count}
 use Rattle.sat_lits.specs.declared.literal.Var.{Var}
 use Rattle.sat_lits.specs.declared.literal.Own.{Own}
 use Rattle.sat_lits.specs.declared.literal.OwnLit.{OwnLit}
@@ -16,17 +16,16 @@ use Rattle.clause_store.specs.Store.{Store}
 use Rattle.rebuild_stack.specs.Roots.{root}
 use Rattle.rebuild_stack.specs.declared.entry.Root.{Root}
 use Rattle.var_maps.specs.Maps.{Maps, Matched, inner_at, plain}
-use Rattle.xor_cut.specs.Pieces.{are_different, own_var, own_vars, pieces, pieces_by}
+use Rattle.xor_cut.specs.Pieces.{are_different, own_vars, pieces}
 use Rattle.xor_cut.specs.CutLaws.{different-pieces_by}
 use Rattle.xor_cut.specs.declared.piece.Piece.{Piece}
-use Rattle.state_laws.specs.State.{State, is_active, outer_count, outers_from}
-use Rattle.state_laws.specs.Stands.{IsPlaced}
+use Rattle.state_laws.specs.State.{is_active, outers_from}
 use Rattle.state_laws.specs.Kernel.{Kernel, state_of, Standing, plain_kernel}
 use Rattle.state_laws.specs.Held.{own_clause, in_own, hard_clause, ExtendsBy}
 use Rattle.state_laws.specs.declared.definition.Definition.{Definition}
 use Rattle.state_laws.specs.KernelTakeLaws.{own_outer_lit, outers_len}
 use Rattle.state_laws.specs.ViewLaws.{get_is_some}
-use Rattle.private_state.specs.Parities.{parity_roots, var_root, left_vars, left_rhs, parity_pieces, definitions_of, clauses_of, ParityTakable}
+use Rattle.private_state.specs.Parities.{parity_roots, left_vars, left_rhs, parity_pieces, definitions_of, clauses_of, ParityTakable}
 use Rattle.private_state.specs.InMaps.{outer_root, may_be_named, all_stored_forms, HasPrivates}
 use Rattle.private_state.specs.MadeOf.{Tables, IsMade, IsUnmade}
 use Rattle.private_state.specs.Removed.{Removed}
@@ -35,7 +34,7 @@ use Rattle.private_state.specs.declared.collect.Fresh.{Fresh}
 use Rattle.private_state.specs.declared.made.Made.{Made}
 use Rattle.private_state.proofs.KernelMade.{HasMade}
 use Rattle.private_state.proofs.ParityRoots.{few_cuts}
-use Rattle.private_state.proofs.PieceChain.{are_active, active_below, left_active, left_different}
+use Rattle.private_state.proofs.PieceChain.{active_below, left_active, left_different}
 use Rattle.private_state.proofs.StoredForms.{is_named, named_may, pieces_pass, pieces_clean, length-definitions_of, stored_distinct, all_stored_own, hard_own}
 
 -- as many variables are in the maps as have definitions

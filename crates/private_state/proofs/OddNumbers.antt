@@ -1,19 +1,19 @@
 -- Numbers that stand an odd number of times: how two walks find them, and what exclusive ors they have.
-use Rattle.std.proofs.Common.{◌≡◌, ℕ, suc, ◌+◌, ◌<◌, ◌≤◌, ◌==◌, Bool, true, false, not, cond, ◌&&◌, ◌||◌, List, [], ◌∷◌, ◌++◌, Option, Some, None, length, filter, filter_map, map, take, drop, get_or, refl, sym, ap, ap₂, ◌∙◌, arith, eqb-true, eq-eqb, ne_eqb, append_assoc, append-nil}
+use Rattle.std.proofs.Common.{◌≡◌, ℕ, suc, ◌≤◌, ◌==◌, Bool, true, false, not, cond, ◌&&◌, ◌||◌, List, [], ◌∷◌, ◌++◌, length, filter, map, refl, sym, ap, ap₂, ◌∙◌, arith, eqb-true, eq-eqb, ne_eqb, append_assoc}
 use Rattle.std.proofs.Math.Path.{fun_ext}
 use Rattle.std.proofs.lemmas.Bool.{and_parts, and_from, or_parts, not-true, eqb-false, false≢true, true≢false}
 use Rattle.std.proofs.lemmas.List.Sums.{length-filter, count_by-le-length}
-use Rattle.std.specs.List.{list_all, list_any, cons_option}
+use Rattle.std.specs.List.{list_all}
 use Rattle.sat_lits.specs.ListLaws.{any_map}
 use Rattle.sat_lits.specs.Truth.{signed, with_value}
-use Rattle.sat_lits.specs.ClauseLaws.{signed_twice, signed_comm, with_value_same, with_value_other}
+use Rattle.sat_lits.specs.ClauseLaws.{signed_twice, signed_comm}
 use Rattle.sat_lits.specs.Conflicts.{toggled, odd_vars}
 use Rattle.sat_lits.specs.ParityLaws.{has, has-toggled}
 use Rattle.sat_lits.specs.declared.literal.Var.{Var}
 use Rattle.sat_lits.specs.declared.literal.Own.{Own}
 use Rattle.xor_cut.specs.Pieces.{exclusive_or, are_different, own_var}
 use Rattle.private_state.specs.Parities.{odd_numbers}
-use Rattle.private_state.specs.Marks.{Marks, is_marked, is_odd_in}
+use Rattle.private_state.specs.Marks.{is_odd_in}
 
 -- one number more turns whether it does
 pub odd_in-push : (numbers : List ℕ) (n m : ℕ) → is_odd_in (numbers ++ n ∷ []) m ≡ signed (n == m) (is_odd_in numbers m)

@@ -1,29 +1,27 @@
 -- What a parity of the caller means in own variables.
-use Rattle.std.proofs.Common.{◌≡◌, ℕ, ◌+◌, ◌*◌, ◌<◌, ◌≤◌, ◌==◌, ◌%◌, Bool, true, false, not, cond, nat_lt, ltb, ◌&&◌, List, [], ◌∷◌, ◌++◌, Option, Some, None, length, map, filter_map, fold, take, get_or, refl, sym, ap, ap₂, ◌∙◌, arith, ltb-true, eqb-true, eq-eqb, ne_eqb, option_to_list}
+use Rattle.std.proofs.Common.{◌≡◌, ℕ, ◌+◌, ◌<◌, ◌≤◌, ◌==◌, ◌%◌, Bool, true, false, not, cond, nat_lt, ◌&&◌, List, [], ◌∷◌, ◌++◌, Option, Some, None, length, map, filter_map, take, get_or, refl, sym, ap, ap₂, ◌∙◌, arith, ltb-true, eqb-true, eq-eqb, ne_eqb, option_to_list}
 use Rattle.std.proofs.lemmas.Bool.{and_parts, and_from, not-true, eqb-false}
-use Rattle.std.proofs.lemmas.List.{length-map, get_or-map, map-append}
+use Rattle.std.proofs.lemmas.List.{length-map, map-append}
 use Rattle.std.proofs.lemmas.List.Sums.{sum_by-cons, fold-append}
 use Rattle.std.proofs.lemmas.List.Elements.{filter_map-append}
 use Rattle.std.proofs.lemmas.List.Folds.{list_all-map}
 use Rattle.std.specs.Bool.{beq}
-use Rattle.std.specs.List.{list_all, list_any, count_by, slice_index_or, cons_option}
+use Rattle.std.specs.List.{list_all, count_by, slice_index_or, cons_option}
 use Rattle.sat_lits.specs.Truth.{signed}
-use Rattle.sat_lits.specs.ClauseLaws.{signed_comm, signed-signed, signed_not}
-use Rattle.sat_lits.specs.Meaning.{is_odd, value_of, is_true, satisfies}
+use Rattle.sat_lits.specs.ClauseLaws.{signed_comm}
+use Rattle.sat_lits.specs.Meaning.{satisfies}
 use Rattle.sat_lits.specs.Conflicts.{odd_vars, odd_of, cuts, cuts_of_count}
 use Rattle.sat_lits.specs.ParityLaws.{odd_of-odd_vars}
 use Rattle.sat_lits.specs.declared.literal.Var.{Var}
 use Rattle.sat_lits.specs.ListLaws.{both_all}
-use Rattle.sat_lits.specs.declared.literal.Own.{Own}
 use Rattle.sat_lits.specs.declared.literal.Lit.{Lit}
 use Rattle.sat_lits.specs.declared.formula.Item.TheVariants.{Parity}
-use Rattle.rebuild_stack.specs.Values.{own_value}
 use Rattle.rebuild_stack.specs.Entries.{rebuild, entry_value}
-use Rattle.rebuild_stack.specs.Roots.{root, is_lost, root_value}
+use Rattle.rebuild_stack.specs.Roots.{is_lost, root_value}
 use Rattle.rebuild_stack.specs.RootLaws.{rebuild_root, holds_root}
 use Rattle.rebuild_stack.specs.declared.entry.Root.{Root}
 use Rattle.rebuild_stack.specs.declared.entry.Root.TheVariants.{Known, Last, Lost}
-use Rattle.xor_cut.specs.Pieces.{exclusive_or, is_parity, own_var}
+use Rattle.xor_cut.specs.Pieces.{is_parity, own_var}
 use Rattle.state_laws.specs.State.{State, outer_part, outer_count, to_own}
 use Rattle.state_laws.specs.TakeLaws.{outer_own}
 use Rattle.private_state.specs.Parities.{odd_numbers, var_root, left_number, turns, parity_roots, left_vars, left_rhs, ParityTakable}

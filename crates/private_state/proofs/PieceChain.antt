@@ -1,33 +1,30 @@
 -- A state stands when a parity is taken in pieces.
-use Rattle.std.proofs.Common.{◌≡◌, ◌⊎◌, ℕ, zero, suc, ◌+◌, ◌-◌, ◌*◌, ◌<◌, ◌≤◌, ◌==◌, Bool, true, false, not, cond, ltb, nat_lt, ◌&&◌, ◌||◌, List, [], ◌∷◌, ◌++◌, Option, Some, None, length, map, filter_map, take, drop, replicate, get_or, refl, sym, ap, ap₂, subst, ◌∙◌, arith, append-nil, append_assoc, ltb-true, lt-ltb, eq-eqb}
+use Rattle.std.proofs.Common.{◌≡◌, ℕ, zero, suc, ◌+◌, ◌-◌, ◌*◌, ◌<◌, ◌≤◌, ◌==◌, Bool, true, false, ltb, nat_lt, ◌||◌, List, [], ◌∷◌, ◌++◌, Some, length, map, filter_map, take, drop, replicate, get_or, refl, sym, ap, subst, ◌∙◌, arith, append-nil, append_assoc, ltb-true, lt-ltb, eq-eqb}
 use Rattle.std.proofs.lemmas.Bool.{and_parts, and_from, or_left, or_right}
-use Rattle.std.proofs.lemmas.List.{length_push, length-append, length-take, length-take-le, length-drop, length-map, get_or_append_left, get_or_push, take_at}
+use Rattle.std.proofs.lemmas.List.{length_push, length-append, length-take-le, length-drop, get_or_append_left, get_or_push, take_at}
 use Rattle.std.proofs.lemmas.List.Folds.{list_all-append, list_all-map}
 use Rattle.std.specs.Bool.{beq}
 use Rattle.std.specs.List.{list_all}
 use Rattle.sat_lits.specs.Truth.{signed, clauses_value}
-use Rattle.sat_lits.specs.ListLaws.{all_mono, all_front, all_push}
+use Rattle.sat_lits.specs.ListLaws.{all_mono, all_front}
 use Rattle.sat_lits.specs.ClauseLaws.{clauses_value-append, beq_true}
 use Rattle.sat_lits.specs.Meaning.{satisfies}
 use Rattle.sat_lits.specs.Formulas.{names_known}
 use Rattle.sat_lits.specs.Conflicts.{odd_vars, cuts_of_count}
 use Rattle.sat_lits.specs.declared.literal.Var.{Var}
 use Rattle.sat_lits.specs.declared.literal.Own.{Own}
-use Rattle.sat_lits.specs.declared.literal.OwnLit.{OwnLit}
 use Rattle.sat_lits.specs.declared.formula.Item.{Item}
 use Rattle.sat_lits.specs.declared.formula.Item.TheVariants.{Parity}
-use Rattle.rebuild_stack.specs.Values.{own_value, each_lit}
+use Rattle.rebuild_stack.specs.Values.{own_value}
 use Rattle.rebuild_stack.specs.Entries.{rebuild}
 use Rattle.rebuild_stack.specs.OrderLaws.{root_active}
 use Rattle.rebuild_stack.specs.Roots.{root_passes}
-use Rattle.rebuild_stack.specs.PutIn.{is_clean}
 use Rattle.rebuild_stack.specs.declared.entry.Root.{Root}
 use Rattle.rebuild_stack.specs.declared.entry.Root.TheVariants.{Known, Last, Lost}
-use Rattle.xor_cut.specs.Pieces.{exclusive_or, is_parity, are_different, own_var, pieces_by, first_piece}
-use Rattle.xor_cut.specs.CutLaws.{exclusive_or-push, rest_value, first_value, first_gives, rest_below, all_drop, different_front, different_rest, different_push}
+use Rattle.xor_cut.specs.Pieces.{exclusive_or, is_parity, are_different, own_var, pieces_by}
+use Rattle.xor_cut.specs.CutLaws.{exclusive_or-push, rest_value, first_gives, all_drop, different_front, different_rest, different_push}
 use Rattle.xor_cut.specs.declared.piece.Piece.{Piece}
-use Rattle.state_laws.specs.declared.definition.Definition.{Definition}
-use Rattle.state_laws.specs.declared.definition.Definition.TheVariants.{Xor, And}
+use Rattle.state_laws.specs.declared.definition.Definition.TheVariants.{Xor}
 use Rattle.state_laws.specs.State.{State, is_active, outer_count, outers_from, outer_part, is_as_defined, to_own}
 use Rattle.state_laws.specs.State as st
 use Rattle.state_laws.specs.Stands.{Accords, IsPlaced, Stands}
@@ -36,7 +33,7 @@ use Rattle.state_laws.specs.Conditions.{StandsFor, Defines}
 use Rattle.state_laws.specs.ExtendLaws.{outers_from-append, taking-Stands, extended-Stands, before_extended, item_same}
 use Rattle.state_laws.specs.TakeLaws.{outers_below}
 use Rattle.state_laws.specs.PlaceLaws.{active_in, somewhere}
-use Rattle.private_state.specs.Parities.{parity_clauses, odd_numbers, var_root, left_number, parity_roots, left_vars, left_rhs, parity_pieces, definitions_of, clauses_of, defining, parity_taken, ParityTakable}
+use Rattle.private_state.specs.Parities.{parity_clauses, odd_numbers, var_root, left_number, parity_roots, left_vars, left_rhs, definitions_of, clauses_of, defining, parity_taken, ParityTakable}
 use Rattle.private_state.proofs.OddNumbers.{odd_all, apart-odd, different_own}
 use Rattle.private_state.proofs.ParityForms.{parity_clauses_value, parity_clauses_each, parity_clauses_clean}
 use Rattle.private_state.proofs.ParityRoots.{odd_there, parity_holds, parity_rebuilt}

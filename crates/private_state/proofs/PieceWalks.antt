@@ -1,11 +1,10 @@
 -- Walks over the pieces of a parity.
-use Rattle.std.proofs.Common.{◌≡◌, ℕ, ◌+◌, List, [], ◌∷◌, ◌++◌, Option, Some, None, map, filter_map, flat_map, take, get_or, refl, sym, ap, ◌∙◌, append-nil, option_to_list}
+use Rattle.std.proofs.Common.{◌≡◌, ℕ, ◌+◌, List, [], ◌∷◌, ◌++◌, Option, Some, None, map, take, refl, sym, ap, ◌∙◌, append-nil, option_to_list}
 use Rattle.std.proofs.lemmas.List.{map-append}
 use Rattle.std.proofs.lemmas.List.Elements.{filter_map-append}
 use Rattle.std.proofs.lemmas.List.Concat.{flat_map-append}
 use Rattle.std.proofs.lemmas.Option.{slice_get_within}
 use Rattle.std.specs.List.{slice_get, cons_option}
-use Rattle.sat_lits.specs.declared.literal.InLit.{InLit}
 use Rattle.xor_cut.specs.declared.piece.Piece.{Piece}
 use Rattle.state_laws.specs.declared.definition.Definition.{Definition}
 use Rattle.state_laws.specs.Held.{InClause}

@@ -1,5 +1,5 @@
 -- Numbers that are marked, and those that stand an odd number of times in a list.
-use Rattle.std.specs.Prelude.{◌≡◌, ℕ, Bool, false, List, nat_eq, unwrap_or}
+use Rattle.std.specs.Prelude.{ℕ, Bool, false, List, nat_eq, unwrap_or}
 use Rattle.std.specs.declared.hash.FoldHasher.{FoldHasher}
 use Rattle.std.specs.declared.hash.BuildHasherDefault.{BuildHasherDefault}
 use Rattle.std.specs.HashMap.{HashMap, get}

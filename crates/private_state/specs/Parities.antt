@@ -1,7 +1,7 @@
 -- What a parity is in own variables, and what a state is after it is taken.
-use Rattle.std.specs.Prelude.{◌≡◌, ℕ, ◌+◌, ◌-◌, ◌≤◌, ◌^◌, Bool, true, false, not, cond, ◌||◌, List, [], ◌∷◌, ◌++◌, Some, None, map, filter_map, fold, flat_map, take, length, replicate, nat_lt, option_map}
+use Rattle.std.specs.Prelude.{◌≡◌, ℕ, ◌+◌, ◌-◌, ◌≤◌, ◌^◌, Bool, true, false, not, cond, List, [], ◌∷◌, ◌++◌, Some, None, map, filter_map, fold, flat_map, take, length, replicate, nat_lt, option_map}
 use Rattle.std.specs.declared.option.Option.{Option}
-use Rattle.std.specs.List.{list_all, list_any}
+use Rattle.std.specs.List.{list_all}
 use Rattle.sat_lits.specs.Truth.{signed}
 use Rattle.sat_lits.specs.Conflicts.{odd_vars, cuts}
 use Rattle.sat_lits.specs.Formulas.{names_known}

@@ -1,4 +1,3 @@
-use Rattle.std.proofs.Common.{◌≡◌}
 use Rattle.state_laws.specs.HeldLaws.{rolled_back}
 use Rattle.private_state.specs.Fresh.{in_clauses}
 use Rattle.private_state.proofs.made.add_made.Goals as goal

@@ -1,4 +1,4 @@
-use Rattle.std.proofs.Common.{◌≡◌, ◌+◌, ◌≤◌, ◌^◌, ◌++◌, Some, map, length, vec_len, vec_capacity}
+use Rattle.std.proofs.Common.{◌≡◌, ◌+◌, ◌≤◌, ◌++◌, Some, map, length, vec_len, vec_capacity}
 use Rattle.private_state.specs.InMaps.{HasPrivates}
 use Rattle.private_state.proofs.made.add_vars.Given as goal
 

@@ -1,6 +1,6 @@
-use Rattle.std.proofs.Common.{◌≡◌, ◌==◌, ℕ, List, sym, ap, ◌∙◌, take, get_or}
+use Rattle.std.proofs.Common.{◌==◌, ℕ, List, sym, ap, ◌∙◌, take, get_or}
 use Rattle.sat_lits.specs.Truth.{signed}
-use Rattle.private_state.specs.Marks.{is_marked, is_odd_in}
+use Rattle.private_state.specs.Marks.{is_odd_in}
 use Rattle.private_state.proofs.Collecting.{taken_at}
 use Rattle.private_state.proofs.OddNumbers.{odd_in-push}
 use Rattle.private_state.proofs.odd.marks_of.Goals as goal

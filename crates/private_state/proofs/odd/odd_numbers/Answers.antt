@@ -1,7 +1,7 @@
-use Rattle.std.proofs.Common.{◌≡◌, ◌++◌, ◌∷◌, [], ℕ, Bool, List, sym, ap, ap₂, ◌∙◌, drop, get_or, ◌+◌}
+use Rattle.std.proofs.Common.{◌++◌, ℕ, Bool, List, sym, ap, ap₂, ◌∙◌, drop, get_or, ◌+◌}
 use Rattle.std.proofs.lemmas.List.{drop_more}
 use Rattle.std.proofs.Math.Path.{fun_ext}
-use Rattle.private_state.specs.Marks.{is_marked, is_odd_in}
+use Rattle.private_state.specs.Marks.{is_marked}
 use Rattle.private_state.proofs.OddNumbers.{marked, marked_odd, marked_step}
 use Rattle.private_state.proofs.odd.odd_numbers.Goals as goal
 

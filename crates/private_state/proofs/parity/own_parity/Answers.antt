@@ -1,10 +1,8 @@
-use Rattle.std.proofs.Common.{◌≡◌, ℕ, true, List, length, map, nat_lt, sym, ap, ◌∙◌}
+use Rattle.std.proofs.Common.{ℕ, List, length, map, nat_lt, ap, ◌∙◌}
 use Rattle.std.specs.List.{list_all}
 use Rattle.std.specs.Prelude.{filter_map}
-use Rattle.sat_lits.specs.Conflicts.{odd_vars}
-use Rattle.sat_lits.specs.declared.literal.Own.{Own}
 use Rattle.xor_cut.specs.Pieces.{own_var}
-use Rattle.private_state.specs.Parities.{odd_numbers, left_number, left_vars, left_rhs}
+use Rattle.private_state.specs.Parities.{odd_numbers, left_number, left_rhs}
 use Rattle.private_state.specs.InMaps.{outer_root}
 use Rattle.private_state.proofs.OddNumbers.{odd_of_vars}
 use Rattle.private_state.proofs.ParityRoots.{odd_there}

@@ -1,4 +1,4 @@
-use Rattle.std.proofs.Common.{◌≡◌, ◌++◌, ℕ, Bool, List, ap, ◌∙◌, get_or, option_to_list}
+use Rattle.std.proofs.Common.{◌++◌, ap, ◌∙◌, option_to_list}
 use Rattle.sat_lits.specs.Truth.{signed}
 use Rattle.rebuild_stack.specs.declared.entry.Root.{Root}
 use Rattle.private_state.specs.Parities.{left_number, turns}

@@ -1,5 +1,4 @@
-use Rattle.std.proofs.Common.{◌≡◌, ◌+◌, ◌∙◌, ℕ, Some, refl, ap, sym, subst, map, length, List, ◌++◌, ◌∷◌, []}
-use Rattle.var_maps.specs.Maps.{Maps}
+use Rattle.std.proofs.Common.{◌≡◌, ◌∙◌, Some, refl, ap, sym, subst, length, ◌∷◌, []}
 use Rattle.state_laws.specs.declared.definition.Definition.{Definition}
 use Rattle.state_laws.specs.ExtendLaws.{extended-Stands}
 use Rattle.state_laws.specs.Kernel.{Kernel, state_of}

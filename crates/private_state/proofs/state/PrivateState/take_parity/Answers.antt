@@ -1,13 +1,12 @@
-use Rattle.std.proofs.Common.{◌≡◌, ◌+◌, ◌≤◌, ◌^◌, ◌∙◌, ℕ, Bool, true, refl, ap, sym, subst, map, length, List, ◌++◌, ◌∷◌, [], arith}
+use Rattle.std.proofs.Common.{◌≡◌, ◌≤◌, ◌∙◌, ℕ, Bool, refl, ap, sym, subst, map, length, List, ◌++◌, ◌∷◌, [], arith}
 use Rattle.std.specs.List.{list_all}
 use Rattle.sat_lits.specs.ListLaws.{pushed}
 use Rattle.sat_lits.specs.declared.literal.Var.{Var}
 use Rattle.sat_lits.specs.declared.formula.Item.{Item}
 use Rattle.sat_lits.specs.declared.formula.Item.TheVariants.{Parity}
 use Rattle.xor_cut.specs.declared.piece.Piece.{Piece}
-use Rattle.var_maps.specs.Maps.{Maps, plain}
 use Rattle.state_laws.specs.declared.definition.Definition.{Definition}
-use Rattle.state_laws.specs.Kernel.{Kernel, state_of, plain_kernel, Longer}
+use Rattle.state_laws.specs.Kernel.{Kernel, state_of}
 use Rattle.private_state.specs.Removed.{Removed}
 use Rattle.private_state.specs.Fresh.{in_clauses, hard_in}
 use Rattle.private_state.specs.Kept.{kernel_of}
@@ -16,7 +15,7 @@ use Rattle.private_state.specs.MadeOf.{Tables, IsMade, IsUnmade}
 use Rattle.private_state.specs.Parities.{ParityTakable, parity_pieces, parity_taken, definitions_of, clauses_of}
 use Rattle.private_state.proofs.Moving.{plain-Standing}
 use Rattle.private_state.proofs.PieceChain.{parity-Stands}
-use Rattle.private_state.proofs.KernelMade.{HasMade, made_state, made-Standing, made-Longer}
+use Rattle.private_state.proofs.KernelMade.{HasMade, made_state, made-Standing}
 use Rattle.private_state.proofs.KernelParity.{parity_there, parity_below, parity_room, parity_pieces_are, parity_may, parity_fits, parity_distinct, parity_definitions, parity_made, unmade_kernel, made_vars}
 use Rattle.private_state.proofs.state.PrivateState.take_parity.Goals as goal
 use Rattle.private_state.proofs.state.PrivateState.take_parity.Goals.{After-drop-pieces-inside-2}
