@@ -1,4 +1,4 @@
-ghost use Rattle.std.specs.Prelude.{◌≡◌, ◌+◌, ◌*◌, ◌<◌, ◌≤◌, ◌^◌, ℕ, Bool, true, false, ◌∷◌, ◌++◌, [], Some, length, take, drop, filter_map, nat_lt, nat_le, IfOk, IsTrue};
+ghost use Rattle.std.specs.Prelude.{◌≡◌, ◌+◌, ◌*◌, ◌<◌, ◌≤◌, ◌^◌, ℕ, Bool, true, false, Some, length, filter_map, nat_lt, nat_le, IfOk, IsTrue};
 ghost use Rattle.std.specs.List.{list_all};
 ghost use Rattle.sat_lits.specs.Conflicts.{cuts_of_count};
 ghost use Rattle.xor_cut.specs.Pieces.{is_parity, are_satisfied, are_different, own_vars, first_piece, pieces, ExtendsOnce};
