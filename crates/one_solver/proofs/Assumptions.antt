@@ -1,8 +1,8 @@
 -- What the literals that assumptions were mapped to say of the items taken.
-use Rattle.std.proofs.Common.{◌≡◌, ℕ, zero, suc, ◌+◌, ◌^◌, ◌<◌, ◌≤◌, ◌==◌, ◌||◌, Bool, true, false, nat_lt, List, [], ◌∷◌, Option, Some, None, is_some, length, map, get_or, refl, sym, ap, subst, ◌∙◌, arith, eq-eqb}
-use Rattle.std.specs.List.{list_all, list_any}
+use Rattle.std.proofs.Common.{◌≡◌, ℕ, zero, suc, ◌+◌, ◌^◌, ◌<◌, ◌≤◌, Bool, true, false, nat_lt, List, [], ◌∷◌, Option, Some, None, is_some, length, map, get_or, refl, sym, ap, subst, ◌∙◌, arith, eq-eqb}
+use Rattle.std.specs.List.{list_all}
 use Rattle.std.specs.List.Sorted.{IsStrictlyIncreasing}
-use Rattle.std.proofs.lemmas.Bool.{and_from, or_right, or_left, lt-ltb, ltb-true, true≢false, false≢true}
+use Rattle.std.proofs.lemmas.Bool.{or_right, or_left, lt-ltb, ltb-true, false≢true}
 use Rattle.std.proofs.lemmas.List.{length-map}
 use Rattle.std.proofs.lemmas.List as listed
 use Rattle.std.proofs.lemmas.List.Folds.{list_all-map}
@@ -18,12 +18,10 @@ use Rattle.sat_lits.specs.declared.formula.Item.TheVariants.{Clause}
 use Rattle.sat_lits.specs.declared.shared.Shared.{Shared}
 use Rattle.rebuild_stack.specs.Values.{values_of, own_value}
 use Rattle.rebuild_stack.specs.Roots.{root}
-use Rattle.rebuild_stack.specs.declared.entry.Root.{Root}
-use Rattle.clause_store.specs.Store.{Held}
 use Rattle.propagate.specs.Reasons.{lit_value}
 use Rattle.var_maps.specs.Maps.{Maps, Matched, owner_at}
 use Rattle.state_laws.specs.State.{problem_of, satisfies_entries, to_own, widen}
-use Rattle.state_laws.specs.Conditions.{Takable, Satisfies}
+use Rattle.state_laws.specs.Conditions.{Takable}
 use Rattle.state_laws.specs.Theorems.{Fits, Confirms}
 use Rattle.state_laws.specs.WidenLaws.{widened_confirm}
 use Rattle.state_laws.specs.Held.{own_or, own_of, in_value, inner_value}
@@ -32,9 +30,8 @@ use Rattle.private_state.specs.Rebuilt.{rebuilt_values}
 use Rattle.search.specs.Answers.{AreFailed, IsInnerModel}
 use Rattle.search.specs.Assumed.{assumption_at}
 use Rattle.search.specs.InUse.{owned_from, in_use, is_among, lits_among}
-use Rattle.assume_map.specs.Roots.{roots, root_at}
-use Rattle.assume_map.specs.Mapping.{lit_at, HasKept, IsReady, IsClash}
-use Rattle.assume_map.specs.Theorems.{makes_true_at}
+use Rattle.assume_map.specs.Roots.{roots}
+use Rattle.assume_map.specs.Mapping.{IsReady, IsClash}
 use Rattle.assume_map.specs.MappingLaws.{clash_contradicts, ready_has_values, ready_is_rebuilt}
 use Rattle.one_solver.specs.Basic.{IsBasic}
 use Rattle.one_solver.specs.Parts.{Parts, problem_in, AssumesKnown}

@@ -1,5 +1,5 @@
 -- A solver that is not okay has no model.
-use Rattle.std.proofs.Common.{◌≡◌, ◌<◌, ℕ, Bool, true, false, List, [], ◌∷◌, Some, refl, ap, sym, ◌∙◌, length, ltb, ltb-true, arith}
+use Rattle.std.proofs.Common.{◌≡◌, ℕ, Bool, true, false, List, [], Some, ap, sym, ◌∙◌, length}
 use Rattle.std.specs.List.{list_all, slice_get}
 use Rattle.sat_lits.specs.Truth.{clause_value}
 use Rattle.sat_lits.specs.Meaning.{Follows}
@@ -7,7 +7,7 @@ use Rattle.sat_lits.specs.ClauseLaws.{clause_value-map}
 use Rattle.sat_lits.specs.ListLaws.{all_mono}
 use Rattle.sat_lits.specs.declared.literal.InLit.{InLit}
 use Rattle.sat_lits.specs.declared.shared.Shared.{Shared}
-use Rattle.std.proofs.lemmas.Bool.{and_parts, true≢false}
+use Rattle.std.proofs.lemmas.Bool.{true≢false}
 use Rattle.rebuild_stack.specs.Values.{own_value}
 use Rattle.clause_store.specs.Store.{Held}
 use Rattle.propagate.specs.Reasons.{lit_value, held_value}

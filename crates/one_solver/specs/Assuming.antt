@@ -3,7 +3,7 @@ use Rattle.std.specs.Prelude.{◌≡◌, ℕ, Bool, false, List}
 use Rattle.sat_lits.specs.Meaning.{Problem, IsModel}
 use Rattle.sat_lits.specs.declared.literal.Lit.{Lit}
 use Rattle.sat_lits.specs.declared.literal.InLit.{InLit}
-use Rattle.state_laws.specs.Kernel.{Kernel, state_of}
+use Rattle.state_laws.specs.Kernel.{state_of}
 use Rattle.assume_map.specs.Roots.{roots}
 use Rattle.assume_map.specs.Mapping.{IsReady}
 use Rattle.assume_map.specs.Theorems.{makes_true_at}

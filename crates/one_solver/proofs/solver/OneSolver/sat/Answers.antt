@@ -1,7 +1,7 @@
-use Rattle.std.proofs.Common.{◌≡◌, Bool, List, ap, subst, sym}
+use Rattle.std.proofs.Common.{◌≡◌, subst}
 use Rattle.sat_lits.specs.Meaning.{IsModel}
 use Rattle.var_maps.specs.Maps.{Maps, Matched}
-use Rattle.state_laws.specs.Kernel.{Kernel, Standing}
+use Rattle.state_laws.specs.Kernel.{Standing}
 use Rattle.private_state.specs.Rebuilt.{rebuilt_values}
 use Rattle.one_solver.specs.Basic.{IsBasic}
 use Rattle.one_solver.specs.Parts.{Parts, problem_in}

@@ -1,18 +1,14 @@
-use Rattle.std.proofs.Common.{◌≡◌, ◌≤◌, ◌-◌, ℕ, [], List, Option, length, option_map, IfSome, refl, subst, sym, ap, ◌∙◌}
+use Rattle.std.proofs.Common.{◌≡◌, ◌≤◌, ◌-◌, ℕ, Option, length, option_map, IfSome, refl, subst, sym, ap, ◌∙◌}
 use Rattle.sat_lits.specs.Conflicts.{own_count}
-use Rattle.sat_lits.specs.Verdicts.{IsFailed}
-use Rattle.sat_lits.specs.declared.literal.Lit.{Lit}
 use Rattle.state_laws.specs.State.{problem_of}
 use Rattle.state_laws.specs.Kernel.{Kernel, state_of, Standing}
 use Rattle.search.specs.Answers.{IsBelow}
 use Rattle.one_solver.specs.Assuming.{IsMappedTo}
 use Rattle.one_solver.specs.Kept.{parts_of}
 use Rattle.one_solver.specs.Parts.{Parts, problem_in}
-use Rattle.one_solver.specs.Steps.{IsUnderWay, StepsRight, SpendsLimit, HasNoModel}
-use Rattle.one_solver.specs.declared.answer.StepAnswer.{StepAnswer}
-use Rattle.one_solver.proofs.Refuting.{no_model, failed_contradicted}
+use Rattle.one_solver.specs.Steps.{IsUnderWay, StepsRight, SpendsLimit}
 use Rattle.one_solver.proofs.Assumptions.{lits_few, lits_active, still_mapped}
-use Rattle.one_solver.proofs.Counting.{own_few, spends, ends, over_right, none_fails}
+use Rattle.one_solver.proofs.Counting.{own_few, spends, ends, over_right}
 use Rattle.one_solver.proofs.solver.OneSolver.search_under.Goals as goal
 use Rattle.one_solver.proofs.solver.OneSolver.search_under.Goals.{After-left_of-left}
 use Rattle.one_solver.proofs.solver.OneSolver.search_under.Given.{Over}

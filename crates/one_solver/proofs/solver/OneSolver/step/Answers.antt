@@ -1,4 +1,4 @@
-use Rattle.std.proofs.Common.{◌≡◌, ℕ, true, nat_lt, length, List, [], sym, ap, subst, ◌∙◌}
+use Rattle.std.proofs.Common.{◌≡◌, ℕ, true, nat_lt, length, List, sym, ap, subst, ◌∙◌}
 use Rattle.std.specs.List.{list_all}
 use Rattle.std.specs.List.Sorted.{IsStrictlyIncreasing}
 use Rattle.sat_lits.specs.Verdicts.{IsFailed}
@@ -14,9 +14,9 @@ use Rattle.one_solver.specs.Basic.{IsBasic}
 use Rattle.one_solver.specs.Assuming.{IsMappedTo, AreContradicted}
 use Rattle.one_solver.specs.Kept.{parts_of}
 use Rattle.one_solver.specs.Parts.{Parts, problem_in, AssumesKnown}
-use Rattle.one_solver.specs.Steps.{IsUnderWay, StepsRight, HasNoModel}
+use Rattle.one_solver.specs.Steps.{HasNoModel}
 use Rattle.one_solver.proofs.Refuting.{no_model}
-use Rattle.one_solver.proofs.Counting.{none_fails, verdict_right}
+use Rattle.one_solver.proofs.Counting.{none_fails}
 use Rattle.one_solver.proofs.Assumptions.{takable, roots_long, clash_contradicted}
 use Rattle.one_solver.proofs.solver.OneSolver.step.Goals as goal
 use Rattle.one_solver.proofs.solver.OneSolver.step.Given.{Over}

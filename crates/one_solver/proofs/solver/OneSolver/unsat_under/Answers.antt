@@ -1,4 +1,4 @@
-use Rattle.std.proofs.Common.{◌≡◌, ℕ, true, nat_lt, length, List, [], ◌∷◌, refl, sym, ap, subst, ◌∙◌, arith}
+use Rattle.std.proofs.Common.{◌≡◌, ℕ, true, nat_lt, length, List, [], ◌∷◌, refl, sym, subst, ◌∙◌, arith}
 use Rattle.std.proofs.lemmas.Bool.{eqb-true}
 use Rattle.std.specs.List.{list_all}
 use Rattle.std.specs.List.Sorted.{IsStrictlyIncreasing}
@@ -7,8 +7,7 @@ use Rattle.one_solver.specs.Assuming.{AreContradicted}
 use Rattle.one_solver.specs.Basic.{IsBasic}
 use Rattle.one_solver.specs.Parts.{Parts, problem_in}
 use Rattle.one_solver.proofs.Refuting.{failed_contradicted}
-use Rattle.one_solver.proofs.Counting.{none_fails}
-use Rattle.one_solver.proofs.Assumptions.{positions_of, failed_contradict_items, failed_rise, failed_within}
+use Rattle.one_solver.proofs.Assumptions.{failed_contradict_items, failed_rise, failed_within}
 use Rattle.one_solver.proofs.solver.OneSolver.unsat_under.Goals as goal
 
 no_more : {X : Type 0} (xs : List X) → length xs ≡ 0 → xs ≡ []
