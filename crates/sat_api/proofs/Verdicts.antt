@@ -1,5 +1,5 @@
 -- The clause of negated literals.
-use Rattle.std.proofs.Common.{◌≡◌, ℕ, Bool, true, false, not, ◌||◌, ◌&&◌, List, [], ◌∷◌, Option, map, refl, sym, ap, subst, ◌∙◌}
+use Rattle.std.proofs.Common.{◌≡◌, ℕ, Bool, true, false, not, ◌||◌, ◌&&◌, List, [], ◌∷◌, Option, Some, cond, rules, map, refl, sym, ap, subst, ◌∙◌}
 use Rattle.std.proofs.lemmas.Bool.{or_left, or_right, true≢false}
 use Rattle.sat_lits.specs.Truth.{signed}
 use Rattle.sat_lits.specs.ClauseLaws.{signed_not}
@@ -8,7 +8,7 @@ use Rattle.sat_lits.specs.Verdicts.{makes_true, IsFailed, IsRight}
 use Rattle.sat_lits.specs.declared.verdict.Verdict.{Verdict}
 use Rattle.sat_lits.specs.declared.verdict.Verdict.TheVariants.{Unsat}
 use Rattle.sat_lits.specs.declared.literal.Lit.{Lit}
-use Rattle.sat_api.specs.Answers.{HasModelUnder}
+use Rattle.sat_api.specs.Answers.{HasModelUnder, is_refutation}
 use Rattle.sat_api.specs.Decisions.{IsFound}
 use Rattle.sat_api.specs.Laws.{makes_true-StandAt}
 use Rattle.sat_api.specs.declared.decide.Finding.{Finding}
@@ -37,3 +37,16 @@ found_failed f assumptions limit conflicts found verdict failed e v h =
 -- where assumptions fail, there is no model under them
 pub none_under : (f : Problem) (failed assumptions : List Lit) → IsFailed f assumptions failed → HasModelUnder f assumptions → ⊥
 none_under f failed assumptions h (values, model, made) = true≢false (sym (makes_true-StandAt values assumptions h.positions failed h.places made) ∙ h.contradict values model)
+
+-- where the empty clause follows, no assumption is needed for a contradiction
+pub empty_failed : (f : Problem) (assumptions : List Lit) → Follows f [] → IsFailed f assumptions []
+empty_failed f assumptions h = record { positions = []; rising = search rules; places = tt; distinct = search rules; contradict = λ values m. sym (h values m) }
+
+-- a conflict without literals is the empty clause
+pub empty_follows : (f : Problem) (lits : List Lit) → is_refutation (Some lits) ≡ true → Follows f lits → Follows f []
+empty_follows f [] e h = h
+empty_follows f (l ∷ lits) e h = absurd (true≢false (sym e))
+
+pub okay_kept : (r : Bool) → not r ≡ cond r false true
+okay_kept true = refl
+okay_kept false = refl

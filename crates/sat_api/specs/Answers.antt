@@ -1,5 +1,6 @@
 -- What an answer says.
-use Rattle.std.specs.Prelude.{◌≡◌, ℕ, ◌<◌, Bool, true, List, [], ◌∷◌, map, Some, None}
+use Rattle.std.specs.Prelude.{◌≡◌, ℕ, ◌<◌, Bool, true, false, cond, List, [], ◌∷◌, map, Some, None}
+use Rattle.std.specs.declared.option.Option.{Option}
 use Rattle.sat_lits.specs.Conflicts.{own_count, enough}
 use Rattle.sat_lits.specs.Meaning.{Problem, IsModel, negated}
 use Rattle.sat_ports.specs.Causes.{RoseBy}
@@ -50,3 +51,17 @@ abbrev pub Decides : Problem → List Lit → Answer → Type 0
 Decides f assumptions Sat = HasModelUnder f assumptions
 Decides f assumptions Unsat = HasModelUnder f assumptions → ⊥
 Decides f assumptions (Unknown cause) = Unit {0}
+
+-- whether a conflict is the empty clause
+abbrev pub is_refutation : Option (List Lit) → Bool
+is_refutation None = false
+is_refutation (Some []) = true
+is_refutation (Some (l ∷ lits)) = false
+
+-- a solver is no longer okay where the conflict is the empty clause
+abbrev pub KeepsOkay : SolverState → SolverState → Type 0
+KeepsOkay old new = new.okay ≡ cond (is_refutation new.conflict) false old.okay
+
+-- a solver that is not okay answers at once that the items contradict each other
+abbrev pub AnswersAtOnce : SolverState → SolverState → Answer → Type 0
+AnswersAtOnce old new answer = old.okay ≡ false → (answer ≡ Unsat) × (new.conflict ≡ Some []) × (new.counted ≡ old.counted)

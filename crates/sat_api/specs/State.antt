@@ -1,5 +1,5 @@
 -- What contracts see of a solver.
-use Rattle.std.specs.Prelude.{◌≡◌, ℕ, ◌≤◌, Bool, List, None}
+use Rattle.std.specs.Prelude.{◌≡◌, ℕ, ◌≤◌, Bool, true, List, None}
 use Rattle.std.specs.declared.option.Option.{Option}
 use Rattle.std.specs.Option.{ForSome}
 use Rattle.sat_lits.specs.Limits.{LimitNumbers}
@@ -7,7 +7,7 @@ use Rattle.sat_lits.specs.Meaning.{Problem, IsModel, Follows}
 use Rattle.sat_lits.specs.Formulas.{no_problem}
 use Rattle.sat_lits.specs.declared.literal.Lit.{Lit}
 
--- the formula of the items that were taken, the limits, the conflict limit of later questions, the conflicts counted so far, and what the latest call left to be read
+-- the formula of the items that were taken, the limits, the conflict limit of later questions, the conflicts counted so far, what the latest call left to be read, and whether no question was answered by items that contradict each other
 pub record SolverState : Type 0 where
   pub problem : Problem
   pub limits : LimitNumbers
@@ -15,6 +15,7 @@ pub record SolverState : Type 0 where
   pub counted : ℕ
   pub model : Option (List Bool)
   pub conflict : Option (List Lit)
+  pub okay : Bool
 
 -- a solver that took nothing
 abbrev pub new_solver : LimitNumbers → SolverState
@@ -25,6 +26,7 @@ new_solver limits = record {
   counted = 0;
   model = None;
   conflict = None;
+  okay = true;
 }
 
 -- nothing is left to be read

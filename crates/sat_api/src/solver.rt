@@ -1,17 +1,17 @@
-ghost use Rattle.std.specs.Prelude.{◌≡◌, ◌≢◌, ◌+◌, ◌<◌, ◌↔◌, ℕ, [], Some, None, Err, length, IfOk, IfErr, IfSome, OnOk, OnErr};
+ghost use Rattle.std.specs.Prelude.{◌≡◌, ◌≢◌, ◌+◌, ◌<◌, ◌≤◌, ◌^◌, ◌↔◌, ◌⊎◌, ℕ, [], false, Some, None, Err, length, IfOk, IfErr, IfSome, OnOk, OnErr, IsTrue};
 ghost use Rattle.std.specs.Option.{option_copied};
 ghost use Rattle.sat_lits.specs.declared.formula.Item.TheVariants.{Clause};
 ghost use Rattle.sat_lits.specs.Limits.{standard_limits};
 ghost use Rattle.sat_lits.specs.Meaning.{IsModel, Follows};
-ghost use Rattle.sat_lits.specs.Formulas.{with_vars, with_item, first_unknown, numbers_of, lit_count};
+ghost use Rattle.sat_lits.specs.Formulas.{with_vars, with_item, first_unknown, numbers_of, names_known, lit_count};
 ghost use Rattle.sat_api.specs.State.{new_solver, unanswered, with_problem, Keeps};
-ghost use Rattle.sat_api.specs.Answers.{Answers, Decides};
+ghost use Rattle.sat_api.specs.Answers.{Answers, Decides, KeepsOkay, AnswersAtOnce, is_refutation};
 
 use crate::decide::{Finding, decide};
 use crate::error::ApiError;
 use analyze::Tally;
 use one_solver::OneSolver;
-use sat_lits::{Formula, Limits, List, Lit, Verdict};
+use sat_lits::{Formula, Limits, List, Lit, NoMemory, Verdict};
 use sat_ports::Alarm;
 use std::alloc::Global;
 use std::marker::Model;
@@ -49,6 +49,7 @@ pub struct SatSolver {
     tally: Tally,
     model: Option<List<bool>>,
     conflict: Option<List<Lit>>,
+    okay: bool,
 }
 
 impl Model for SatSolver {
@@ -69,14 +70,22 @@ impl SatSolver {
     pub fn new(alloc: Global) -> SatSolver
         ensures { result ≡ new_solver standard_limits }
     {
+        SatSolver::with_limits(alloc, Limits::standard())
+    }
+
+    /// No variables and no items, with these limits and no conflict limit. It takes no memory.
+    pub fn with_limits(alloc: Global, limits: Limits) -> SatSolver
+        ensures { result ≡ new_solver limits }
+    {
         SatSolver {
             alloc,
-            formula: Formula::new(alloc, Limits::standard()),
+            formula: Formula::new(alloc, limits),
             solver: OneSolver::new(alloc, 0),
             max_conflicts: None,
             tally: Tally::new(),
             model: None,
             conflict: None,
+            okay: true,
         }
     }
 
@@ -88,6 +97,8 @@ impl SatSolver {
         ensures only { IfErr result (λ e. e ≡ ApiError.TooManyVars) }
         ensures err { OnErr result (self.new ≡ self.old) }
     {
+        // That the items name variables that are there is known from here on.
+        let _vars = self.formula.vars();
         self.formula.grow(by)?;
         self.model = None;
         self.conflict = None;
@@ -123,31 +134,61 @@ impl SatSolver {
         self.max_conflicts = limit;
     }
 
-    /// Looks for an assignment that satisfies every item and every assumption.
+    /// Looks for an assignment that satisfies every item and every assumption, of which there are at
+    /// most 2^31.
     ///
-    /// After `Sat` the model is there to be read, and after `Unsat` the conflict. `Unknown` comes
-    /// only where a conflict limit is set, `conflicts` rose in this call by at least the limit, and
-    /// the limit is less than the number of conflicts that is enough to decide the formula. `Memory`
-    /// is the only error: then the items stand, and neither model nor conflict is there. No thread
-    /// is started, and the alarm is not asked.
+    /// `NoSuchVar` comes before anything else, exactly where an assumption's variable is not there,
+    /// and names the first such; nothing changes then. Where `okay` is false the answer is `Unsat`
+    /// at once, with the empty conflict. After `Sat` the model is there to be read, and after
+    /// `Unsat` the conflict. `Unknown` comes only where a conflict limit is set, `conflicts` rose in
+    /// this call by at least the limit, and the limit is less than the number of conflicts that is
+    /// enough to decide the formula. `Memory` is the only other error: then the items stand, and
+    /// neither model nor conflict is there. No thread is started, and the alarm is not asked.
     pub fn solve<R: Threads + Sync, A: Alarm + Send>(
         &mut self,
         rt: &R,
         assumptions: &[Lit],
         alarm: &mut A,
     ) -> Result<Answer, ApiError>
-        requires { assumptions.now ≡ [] }
+        requires { length assumptions.now ≤ 2 ^ 31 }
         ensures answers { IfOk result (Answers self.old self.new assumptions.now) }
         ensures decided { IfOk result (Decides self.old.problem assumptions.now) }
+        ensures okay { IfOk result (λ answer. KeepsOkay self.old self.new) }
+        ensures at_once { IfOk result (AnswersAtOnce self.old self.new) }
 
         ensures keeps { Keeps self.old self.new }
         ensures raises { A.raises alarm.new ≡ A.raises alarm.old }
 
-        ensures only { IfErr result (λ e. e ≡ ApiError.Memory) }
+        ensures no_such_var { (n : ℕ) → (result ≡ Err (ApiError.NoSuchVar n))
+            ↔ (first_unknown self.old.problem.vars (numbers_of (Clause assumptions.now)) ≡ Some n) }
+        ensures refused { (n : ℕ) → result ≡ Err (ApiError.NoSuchVar n) → self.new ≡ self.old }
+        ensures memory { result ≡ Err ApiError.Memory → self.new ≡ unanswered (record self.old { counted = self.new.counted }) }
+        ensures only { IfErr result (λ e. (e ≡ ApiError.Memory) ⊎ (n : ℕ) × (e ≡ ApiError.NoSuchVar n)) }
+    {
+        if let Some(var) = unknown_lit(self.formula.vars(), assumptions) {
+            return Err(ApiError::NoSuchVar { var });
+        }
+        let answer = self.ask(assumptions)?;
+        Ok(answer)
+    }
+
+    /// The same where the variables of the assumptions are there.
+    fn ask(&mut self, assumptions: &[Lit]) -> Result<Answer, NoMemory>
+        requires few { length assumptions.now ≤ 2 ^ 31 }
+        requires known { IsTrue (names_known self.old.problem.vars (Clause assumptions.now)) }
+        ensures answers { IfOk result (Answers self.old self.new assumptions.now) }
+        ensures decided { IfOk result (Decides self.old.problem assumptions.now) }
+        ensures okay { IfOk result (λ answer. KeepsOkay self.old self.new) }
+        ensures at_once { IfOk result (AnswersAtOnce self.old self.new) }
+        ensures keeps { Keeps self.old self.new }
         ensures err { OnErr result (self.new ≡ unanswered (record self.old { counted = self.new.counted })) }
     {
         self.model = None;
         self.conflict = None;
+        if !self.okay {
+            self.conflict = Some(List::new(self.alloc));
+            return Ok(Answer::Unsat);
+        }
         // That the count has 64 bits is known from here on.
         let _counted = self.tally.count();
         let found = decide(
@@ -164,6 +205,7 @@ impl SatSolver {
             }
             Finding::Verdict(Verdict::Unsat(mut failed)) => {
                 failed.negate();
+                self.okay = !is_empty_clause(failed.as_slice());
                 self.conflict = Some(failed);
                 Ok(Answer::Unsat)
             }
@@ -172,6 +214,15 @@ impl SatSolver {
                 Ok(Answer::Unknown(Cause::Limit { counts }))
             }
         }
+    }
+
+    /// False exactly where an earlier `solve` answered `Unsat` with the empty conflict: the items
+    /// alone contradict each other.
+    pub fn okay(&self) -> bool
+        ensures value { result ≡ self.now.okay }
+        ensures right { result ≡ false → Follows self.now.problem [] }
+    {
+        self.okay
     }
 
     /// The number of conflicts that were made in all calls of `solve`. It never falls, and stays at
@@ -206,5 +257,21 @@ impl SatSolver {
         ensures follows { IfSome result (λ lits. Follows self.now.problem lits.now) }
     {
         self.conflict.as_ref().map(|lits| lits.as_slice())
+    }
+}
+
+/// The number of the first variable that is not among the first `known`.
+fn unknown_lit(known: u32, lits: &[Lit]) -> Option<u32>
+    ensures { result ≡ first_unknown known (numbers_of (Clause lits.now)) }
+{
+    lits.iter().map(|lit| lit.var.0).find(|var| known <= *var)
+}
+
+fn is_empty_clause(lits: &[Lit]) -> bool
+    ensures { result ≡ is_refutation (Some lits.now) }
+{
+    match lits {
+        [] => true,
+        _ => false,
     }
 }

@@ -1,35 +1,12 @@
-use Rattle.std.proofs.Common.{◌≡◌, Bool, [], List, Option, Some, None, map, sym, subst, ap, ◌∙◌}
-use Rattle.sat_lits.specs.Meaning.{Problem, Follows, negated}
-use Rattle.sat_lits.specs.Formulas.{Extends}
-use Rattle.sat_lits.specs.Verdicts.{IsFailed}
-use Rattle.sat_lits.specs.declared.literal.Lit.{Lit}
-use Rattle.one_solver.specs.Parts.{Parts, problem_in}
+use Rattle.std.proofs.Common.{◌≡◌, ◌∙◌, ℕ, true, None, sym, ap, subst}
+use Rattle.sat_lits.specs.Formulas.{names_known, numbers_of, first_unknown}
+use Rattle.sat_lits.specs.Laws.{known_where_none}
+use Rattle.sat_lits.specs.declared.formula.Item.TheVariants.{Clause}
 use Rattle.sat_api.specs.State.{SolverState}
-use Rattle.sat_api.specs.Answers.{HasModelUnder}
-use Rattle.sat_api.proofs.Verdicts.{negated_follow, found_failed, none_under}
 use Rattle.sat_api.proofs.solver.SatSolver.solve.Goals as goal
 
-some_same : (a b : List Lit) → Some a ≡ Some b → a ≡ b
-some_same a b e = cc
-
-pub invariant_of-self-in-Verdict-Unsat : goal.invariant_of-self-in-Verdict-Unsat
-invariant_of-self-in-Verdict-Unsat g c =
-    let f : Problem = c.self.inside.formula.problem in
-    let failed : IsFailed f c.args.assumptions.now c.in-Verdict-Unsat.failed = found_failed f c.args.assumptions.now c.self.inside.max_conflicts _ c.in_ok-values.field-0 c.in-Verdict-Unsat.field-0 c.in-Verdict-Unsat.failed c.in-Verdict-Unsat.is c.in-Verdict-Unsat.field-0-is c.in_ok-values.ensures.found in
-    record {
-      backed = record {
-        model = λ values e. absurd (let none : ◌≡◌ {A = Option (List Bool)} None (Some values) = e in cc);
-        conflict = λ lits e.
-            let same : c.negate.new.self ≡ lits = some_same _ lits e in
-            subst (λ (ls : List Lit). Follows f ls) (sym c.negate.ensures ∙ same) (negated_follow f c.args.assumptions.now c.in-Verdict-Unsat.failed failed);
-      };
-      front = subst (λ (s : Parts). Extends (problem_in s) f) (sym c.pour.ensures.emptied) c.decide-found.ensures.front;
-      clauses = c.self.invariant.clauses;
-    }
-
-pub returns-in-Verdict-Unsat-clause-decided :
-    goal.returns-in-Verdict-Unsat-clause-decided
-returns-in-Verdict-Unsat-clause-decided g c =
-    let f : Problem = c.self.inside.formula.problem in
-    let failed : IsFailed f c.args.assumptions.now c.in-Verdict-Unsat.failed = found_failed f c.args.assumptions.now c.self.inside.max_conflicts _ c.in_ok-values.field-0 c.in-Verdict-Unsat.field-0 c.in-Verdict-Unsat.failed c.in-Verdict-Unsat.is c.in-Verdict-Unsat.field-0-is c.in_ok-values.ensures.found in
-    subst (λ (s : SolverState). HasModelUnder s.problem c.args.assumptions.now → ⊥) c.self.view_is (none_under f c.in-Verdict-Unsat.failed c.args.assumptions.now failed)
+pub ask-requires-clause-known : goal.ask-requires-clause-known
+ask-requires-clause-known g c =
+    subst (λ (s : SolverState). names_known s.problem.vars (Clause c.args.assumptions.now) ≡ true) c.self.view_is
+    (known_where_none c.self.inside.formula.problem.vars (numbers_of (Clause c.args.assumptions.now))
+    (ap (λ (n : ℕ). first_unknown n (numbers_of (Clause c.args.assumptions.now))) (sym c.vars.ensures.value) ∙ (sym c.unknown_lit.ensures ∙ c.in_default.is)))
