@@ -20,48 +20,76 @@ from pathlib import Path
 EXPECTED = Path(__file__).resolve().parent.parent / "crates" / "library_tour" / "stdout"
 GREATEST_VARS = 16777215
 GREATEST_LITS = 33554432
+OWN_LIMITS = re.compile(r"# At most (\d+) variables and (\d+) literals")
+LITERAL = re.compile(r"Lit { var: Var\((\d+)\), negative: (true|false) }")
 
 
 class Solver:
     """The variables and clauses that a topic's solver took, and what its latest call left."""
 
-    def __init__(self):
+    def __init__(self, most_vars=GREATEST_VARS, most_lits=GREATEST_LITS):
+        self.most_vars, self.most_lits = most_vars, most_lits
         self.vars, self.clauses, self.lits = 0, [], 0
         self.pigeons = None
+        self.okay = True
+        self.assumptions = []
         self.model = self.conflict = "None"
 
     def forget(self):
         self.model = self.conflict = "None"
 
     def new_vars(self, by):
-        if self.vars + by > GREATEST_VARS:
+        if self.vars + by > self.most_vars:
             return "Err(TooManyVars)"
         self.vars += by
         self.forget()
         return "Ok(())"
 
     def add(self, clause, count):
-        unknown = [abs(lit) - 1 for lit in clause if abs(lit) > self.vars]
-        if unknown:
-            return f"Err(NoSuchVar {{ var: {unknown[0]} }})"
-        if self.lits + count > GREATEST_LITS:
+        if refusal := self.refusal(clause):
+            return refusal
+        if self.lits + count > self.most_lits:
             return "Err(TooManyLits)"
         self.clauses.append(clause)
         self.lits += count
         self.forget()
         return "Ok(())"
 
-    def satisfies(self, values):
-        return all(any(values[abs(lit) - 1] == (lit > 0) for lit in clause) for clause in self.clauses)
+    def refusal(self, lits):
+        unknown = [abs(lit) - 1 for lit in lits if abs(lit) > self.vars]
+        return f"Err(NoSuchVar {{ var: {unknown[0]} }})" if unknown else None
 
-    def is_satisfiable(self):
+    def solve(self, assumptions):
+        if refusal := self.refusal(assumptions):
+            return refusal
+        self.assumptions = assumptions
+        holds = self.is_satisfiable(assumptions)
+        self.model, self.conflict = ("some", "None") if holds else ("None", "some")
+        self.okay = self.okay and (holds or self.is_satisfiable([]))
+        return "Sat" if holds else "Unsat"
+
+    def satisfies(self, values, assumptions):
+        clauses = self.clauses + [[lit] for lit in assumptions]
+        return all(any(values[abs(lit) - 1] == (lit > 0) for lit in clause) for clause in clauses)
+
+    def is_satisfiable(self, assumptions):
         if self.pigeons:
             return self.pigeons[0] <= self.pigeons[1]
-        return any(map(self.satisfies, itertools.product([False, True], repeat=self.vars)))
+        every = itertools.product([False, True], repeat=self.vars)
+        return any(self.satisfies(values, assumptions) for values in every)
 
     def is_right_model(self, text):
         values = [word == "true" for word in re.findall("true|false", text)]
-        return len(values) == self.vars and self.satisfies(values)
+        return len(values) == self.vars and self.satisfies(values, self.assumptions)
+
+    def is_right_conflict(self, text):
+        """Negated, its literals are assumptions in their order, and alone contradict the clauses."""
+        failed = [
+            (int(var) + 1) * (1 if negative == "true" else -1)
+            for var, negative in LITERAL.findall(text)
+        ]
+        places = iter(self.assumptions)
+        return all(lit in places for lit in failed) and not self.is_satisfiable(failed)
 
 
 def numbers(text):
@@ -78,19 +106,21 @@ def is_right(solver, line):
     if call.startswith("add_clause"):
         clause = numbers(call)
         return answer == solver.add(clause, len(clause))
-    if call == "solve":
+    if call == "solve" and answer.startswith("Unknown"):
         solver.forget()
-        if answer.startswith("Unknown"):
-            return answer == "Unknown, at [0] conflicts"
-        holds = solver.is_satisfiable()
-        solver.model, solver.conflict = ("some", "None") if holds else ("None", "Some([])")
-        return answer == ("Sat" if holds else "Unsat")
+        return answer == "Unknown, at [0] conflicts"
+    if call.startswith("solve"):
+        return answer == solver.solve(numbers(call))
+    if call == "okay":
+        return answer == str(solver.okay).lower()
     if call == "get_model" and solver.model == "some":
         return answer.startswith("Some") and solver.is_right_model(answer)
     if call == "get_model":
         return answer == "None"
+    if call == "get_conflict" and solver.conflict == "some":
+        return answer.startswith("Some") and solver.is_right_conflict(answer)
     if call == "get_conflict":
-        return answer == solver.conflict
+        return answer == "None"
     if call == "n_vars":
         return int(answer) == solver.vars
     if call == "true values in the model":
@@ -99,8 +129,8 @@ def is_right(solver, line):
         solver.pigeons = int(match[1]), int(match[2])
         return True
     known = (
-        "some assignment satisfies the clauses",
-        "the second variable: Some(true)",
+        "the second variable is never false",
+        "with a clause more: Some([false, true])",
         "conflicts above 100: true",
         "set_max_confl Some(0)",
         "set_max_confl None",
@@ -112,7 +142,9 @@ def main():
     solver = Solver()
     lines = EXPECTED.read_text().splitlines()
     for place, line in enumerate(lines, 1):
-        if line.startswith("# "):
+        if match := OWN_LIMITS.fullmatch(line):
+            solver = Solver(int(match[1]), int(match[2]))
+        elif line.startswith("# "):
             solver = Solver()
         elif not is_right(solver, line):
             sys.exit(f"{EXPECTED.name}, line {place}: not right: {line}")

@@ -1,5 +1,7 @@
 //! Calls of a solver, each written with what it answers.
 
+ghost use Rattle.std.specs.Prelude.{◌≤◌, length};
+
 use crate::error::TourError;
 use sat_api::{Answer, Cause, SatSolver};
 use sat_lits::{Lit, Var};
@@ -69,6 +71,33 @@ pub fn ask<R: Print + Threads + Sync>(rt: &R, solver: &mut SatSolver) -> Result<
             println!(rt; "solve: Unknown, at {counts:?} conflicts")?;
         }
     }
+    Ok(())
+}
+
+/// Asks under the assumptions of these numbers.
+pub fn ask_under<R: Print + AllocGlobal + Threads + Sync>(
+    rt: &R,
+    solver: &mut SatSolver,
+    numbers: &[i32],
+) -> Result<(), TourError>
+    requires { length numbers.now ≤ 100 }
+{
+    let lits: Vec<Lit> = numbers
+        .iter()
+        .map(|number| lit(*number))
+        .collect(rt.alloc())?;
+    match solver.solve(rt, &lits, &mut Silent::new()) {
+        Ok(Answer::Sat) => println!(rt; "solve {numbers:?}: Sat")?,
+        Ok(Answer::Unsat) => println!(rt; "solve {numbers:?}: Unsat")?,
+        Ok(Answer::Unknown(_)) => println!(rt; "solve {numbers:?}: Unknown")?,
+        Err(error) => println!(rt; "solve {numbers:?}: Err({error:?})")?,
+    }
+    Ok(())
+}
+
+/// Reads whether the clauses may have a model still.
+pub fn read_okay<R: Print>(rt: &R, solver: &SatSolver) -> Result<(), TourError> {
+    println!(rt; "okay: {}", solver.okay())?;
     Ok(())
 }
 

@@ -8,11 +8,15 @@ mod calls;
 mod error;
 mod pigeons;
 
-use calls::{add_clause, add_long_clause, ask, lit, new_vars, read, set_max_confl};
+use calls::{
+    add_clause, add_long_clause, ask, ask_under, lit, new_vars, read, read_okay, set_max_confl,
+};
 use error::TourError;
 use pigeons::add_pigeons;
 use sat_api::{Answer, SatSolver};
+use sat_lits::Limits;
 use sat_ports::Silent;
+use std::alloc::Global;
 use std::thread::Threads;
 
 fn main(rt: HostRuntime) -> Result<(), TourError> {
@@ -27,25 +31,31 @@ fn main(rt: HostRuntime) -> Result<(), TourError> {
 enum Topic {
     FirstQuestion,
     OneModel,
+    UnderAssumptions,
+    AskedAgain,
     MoreAfterAnswers,
     TheEmptyClause,
     RefusedVariables,
     RefusedClauses,
     TooManyLiterals,
+    OwnLimits,
     SpentLimit,
     EqualCounts,
     ManyConflicts,
 }
 
 /// The topics in order.
-const TOPICS: [Topic; 10] = [
+const TOPICS: [Topic; 13] = [
     Topic::FirstQuestion,
     Topic::OneModel,
+    Topic::UnderAssumptions,
+    Topic::AskedAgain,
     Topic::MoreAfterAnswers,
     Topic::TheEmptyClause,
     Topic::RefusedVariables,
     Topic::RefusedClauses,
     Topic::TooManyLiterals,
+    Topic::OwnLimits,
     Topic::SpentLimit,
     Topic::EqualCounts,
     Topic::ManyConflicts,
@@ -53,8 +63,16 @@ const TOPICS: [Topic; 10] = [
 
 /// Shows a topic on a new solver.
 fn show<R: Print + AllocGlobal + Threads + Sync>(rt: &R, topic: Topic) -> Result<(), TourError> {
-    let mut solver = SatSolver::new(rt.alloc());
+    let mut solver = solver_for(rt.alloc(), topic);
     show_on(rt, topic, &mut solver)
+}
+
+/// The solver of a topic: with limits of its own, or with the standard ones.
+fn solver_for(alloc: Global, topic: Topic) -> SatSolver {
+    match (topic, Limits::new(2, 3, 1, 100)) {
+        (Topic::OwnLimits, Some(limits)) => SatSolver::with_limits(alloc, limits),
+        _ => SatSolver::new(alloc),
+    }
 }
 
 /// Shows a topic on a solver that took nothing.
@@ -66,11 +84,14 @@ fn show_on<R: Print + AllocGlobal + Threads + Sync>(
     match topic {
         Topic::FirstQuestion => first_question(rt, solver),
         Topic::OneModel => one_model(rt, solver),
+        Topic::UnderAssumptions => under_assumptions(rt, solver),
+        Topic::AskedAgain => asked_again(rt, solver),
         Topic::MoreAfterAnswers => more_after_answers(rt, solver),
         Topic::TheEmptyClause => the_empty_clause(rt, solver),
         Topic::RefusedVariables => refused_variables(rt, solver),
         Topic::RefusedClauses => refused_clauses(rt, solver),
         Topic::TooManyLiterals => too_many_literals(rt, solver),
+        Topic::OwnLimits => own_limits(rt, solver),
         Topic::SpentLimit => spent_limit(rt, solver),
         Topic::EqualCounts => equal_counts(rt, solver),
         Topic::ManyConflicts => many_conflicts(rt, solver),
@@ -86,13 +107,15 @@ fn first_question<R: Print + Threads + Sync>(
     solver.new_vars(2)?;
     solver.add_clause(&[lit(1), lit(2)])?;
     solver.add_clause(&[lit(-1), lit(2)])?;
-    match solver.solve(rt, &[], &mut Silent::new())? {
-        Answer::Sat => println!(rt; "some assignment satisfies the clauses")?,
-        Answer::Unsat => println!(rt; "no assignment satisfies them")?,
+    match solver.solve(rt, &[lit(-2)], &mut Silent::new())? {
+        Answer::Sat => println!(rt; "the second variable may be false")?,
+        Answer::Unsat => println!(rt; "the second variable is never false")?,
         Answer::Unknown(_) => println!(rt; "a limit was spent")?,
     }
-    let second = solver.get_model().and_then(|values| values.get(1).copied());
-    println!(rt; "the second variable: {second:?}")?;
+    solver.add_clause(&[lit(-1)])?;
+    solver.solve(rt, &[], &mut Silent::new())?;
+    let model = solver.get_model();
+    println!(rt; "with a clause more: {model:?}")?;
     Ok(())
 }
 
@@ -109,6 +132,72 @@ fn one_model<R: Print + AllocGlobal + Threads + Sync>(
     add_clause(rt, solver, &[1, -2])?;
     ask(rt, solver)?;
     add_clause(rt, solver, &[3])?;
+    read(rt, solver)
+}
+
+/// The conflict is the clause of the negated failed assumptions. A question that is refused leaves
+/// the answer before it.
+fn under_assumptions<R: Print + AllocGlobal + Threads + Sync>(
+    rt: &R,
+    solver: &mut SatSolver,
+) -> Result<(), TourError> {
+    println!(rt; "# Under assumptions")?;
+    new_vars(rt, solver, 2)?;
+    add_clause(rt, solver, &[1, 2])?;
+    add_clause(rt, solver, &[-1, 2])?;
+    add_clause(rt, solver, &[1, -2])?;
+    ask_under(rt, solver, &[-1])?;
+    read(rt, solver)?;
+    read_okay(rt, solver)?;
+    ask_under(rt, solver, &[])?;
+    read(rt, solver)?;
+    ask_under(rt, solver, &[-1, 3])?;
+    read(rt, solver)?;
+    ask_under(rt, solver, &[1, 2, 1])?;
+    read(rt, solver)?;
+    ask_under(rt, solver, &[-2, 1, -1])?;
+    read_okay(rt, solver)
+}
+
+/// The same question again after an addition, until the clauses alone contradict each other.
+fn asked_again<R: Print + AllocGlobal + Threads + Sync>(
+    rt: &R,
+    solver: &mut SatSolver,
+) -> Result<(), TourError> {
+    println!(rt; "# Asked again")?;
+    new_vars(rt, solver, 3)?;
+    add_clause(rt, solver, &[1, 2, 3])?;
+    ask_under(rt, solver, &[-2, -1])?;
+    read(rt, solver)?;
+    add_clause(rt, solver, &[-3])?;
+    ask_under(rt, solver, &[-2, -1])?;
+    read(rt, solver)?;
+    read_okay(rt, solver)?;
+    add_clause(rt, solver, &[-2])?;
+    ask_under(rt, solver, &[3, -1])?;
+    ask_under(rt, solver, &[1])?;
+    read(rt, solver)?;
+    add_clause(rt, solver, &[-1])?;
+    ask_under(rt, solver, &[3])?;
+    ask(rt, solver)?;
+    read(rt, solver)?;
+    read_okay(rt, solver)?;
+    ask_under(rt, solver, &[2])?;
+    read(rt, solver)
+}
+
+/// A solver of at most two variables, and of three literals over all clauses.
+fn own_limits<R: Print + AllocGlobal + Threads + Sync>(
+    rt: &R,
+    solver: &mut SatSolver,
+) -> Result<(), TourError> {
+    println!(rt; "# At most 2 variables and 3 literals")?;
+    new_vars(rt, solver, 3)?;
+    new_vars(rt, solver, 2)?;
+    add_clause(rt, solver, &[1, 2, 1, 2])?;
+    add_clause(rt, solver, &[-1, -1, -1])?;
+    add_clause(rt, solver, &[2])?;
+    ask_under(rt, solver, &[2])?;
     read(rt, solver)
 }
 
