@@ -14,7 +14,6 @@ use Rattle.sat_lits.specs.Verdicts.{makes_true}
 use Rattle.sat_lits.specs.declared.literal.Lit.{Lit}
 use Rattle.sat_lits.specs.declared.literal.Own.{Own}
 use Rattle.sat_lits.specs.declared.literal.InLit.{InLit}
-use Rattle.sat_lits.specs.declared.formula.Item.TheVariants.{Clause}
 use Rattle.sat_lits.specs.declared.shared.Shared.{Shared}
 use Rattle.rebuild_stack.specs.Values.{values_of, own_value}
 use Rattle.rebuild_stack.specs.Roots.{root}
@@ -36,12 +35,12 @@ use Rattle.assume_map.specs.MappingLaws.{clash_contradicts, ready_has_values, re
 use Rattle.one_solver.specs.Basic.{IsBasic}
 use Rattle.one_solver.specs.Parts.{Parts, problem_in, AssumesKnown}
 use Rattle.one_solver.specs.Assuming.{IsMappedTo, AreContradicted}
-use Rattle.one_solver.proofs.Taking.{can_take}
+use Rattle.one_solver.proofs.Taking.{clause_takable}
 use Rattle.one_solver.proofs.Refuting.{inner_of, held_inner}
 
 -- the assumptions can be mapped
 pub takable : (s : Parts) → IsBasic s.kernel → AssumesKnown s → Takable (state_of s.kernel) s.assumptions
-takable s b a = can_take s.kernel (Clause s.assumptions) b refl a.known
+takable s b a = clause_takable s.kernel s.assumptions b a.known
 
 -- a model fits what was taken where that are no shared entries
 fits : (k : Kernel) (values : List Bool) → IsBasic k → IsModel (problem_of (state_of k)) values → Fits (state_of k) values

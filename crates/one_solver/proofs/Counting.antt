@@ -20,13 +20,12 @@ use Rattle.one_solver.specs.declared.answer.StepAnswer.TheVariants.{Verdict, Int
 use Rattle.one_solver.specs.Basic.{IsBasic}
 use Rattle.one_solver.specs.Parts.{Parts, problem_in, AssumesKnown}
 use Rattle.one_solver.specs.Steps.{IsVerdictOrNone, IsUnderWay, IsTidy, EndsInterval, SpendsLimit, StepsRight, IsOverOrNone, HasNoModel}
-use Rattle.one_solver.proofs.Taking.{outer_length}
 
 -- there are no more own variables than the items may come to have
 pub own_few : (k : Kernel) → Standing k → IsBasic k → length k.maps.inners ≤ own_count (problem_of (state_of k))
 own_few k s b =
     let d : length (map is_some k.maps.inners) ≡ length k.definitions = s.stands.places.lengths in
-    omega (arith, length-map k.maps.inners is_some, outer_length k b)
+    omega (arith, length-map k.maps.inners is_some, b.few)
 
 -- more intervals have no fewer conflicts
 grow : (i d : ℕ) → intervals_len i ≤ intervals_len (i + d)

@@ -1,11 +1,11 @@
 -- What fixing a literal leaves of the clauses of one literal.
-use Rattle.std.proofs.Common.{◌≡◌, ℕ, ◌<◌, ◌==◌, Bool, true, false, cond, not, ◌&&◌, ◌||◌, List, [], ◌∷◌, ◌++◌, Option, Some, None, refl, sym, ap, ap₂, subst, ◌∙◌, ⊎_elim, inl, inr, filter, map, set, get_or, count_by, arith}
+use Rattle.std.proofs.Common.{◌≡◌, ℕ, ◌<◌, ◌≤◌, ◌==◌, Bool, true, false, cond, not, ◌&&◌, ◌||◌, List, [], ◌∷◌, ◌++◌, Option, Some, None, refl, sym, ap, ap₂, subst, ◌∙◌, ⊎_elim, inl, inr, filter, map, set, get_or, count_by, length, arith}
 use Rattle.std.specs.List.{list_any, list_all, cons_option}
-use Rattle.std.specs.Option.{is_none}
 use Rattle.std.specs.Bool.{beq}
 use Rattle.std.proofs.lemmas.Bool.{and_parts, and_from, or_cases, or_left, or_right, eqb-true, eq-eqb, false≢true, true≢false, not-true}
 use Rattle.std.proofs.lemmas.List.Folds.{list_any-append, list_all-append}
 use Rattle.std.proofs.lemmas.List.Sums.{sum_by-set}
+use Rattle.sat_lits.specs.Conflicts.{own_count}
 use Rattle.sat_lits.specs.ListLaws.{all_or_any, any_mono, any_filter}
 use Rattle.sat_lits.specs.ClauseLaws.{beq_true}
 use Rattle.sat_lits.specs.Truth.{signed, clause_value}
@@ -21,7 +21,7 @@ use Rattle.rebuild_stack.specs.declared.entry.Entry.{Entry}
 use Rattle.rebuild_stack.specs.declared.entry.Entry.TheVariants.{Fix}
 use Rattle.clause_store.specs.Store.{Held, hard_of}
 use Rattle.var_maps.specs.Maps.{Maps}
-use Rattle.state_laws.specs.State.{State, is_active}
+use Rattle.state_laws.specs.State.{State, is_active, problem_of}
 use Rattle.state_laws.specs.Resolution.{mentions}
 use Rattle.state_laws.specs.Moves.{put_through, put_into}
 use Rattle.state_laws.specs.Conditions.{EntryFollows, IsContradicted}
@@ -32,7 +32,7 @@ use Rattle.state_laws.specs.ViewLaws.{both_lists}
 use Rattle.state_laws.specs.RootTableLaws.{entry_of, entry_of-some, entry_of-push}
 use Rattle.private_state.specs.Removed.{fixed_value}
 use Rattle.private_state.proofs.Moving.{active_unnamed}
-use Rattle.one_solver.specs.Basic.{is_clause, IsBasic}
+use Rattle.one_solver.specs.Basic.{IsBasic}
 use Rattle.one_solver.specs.Fixing.{IsHeldOrFixed, IsFixing}
 use Rattle.one_solver.specs.Learned.{HasForgotten}
 use Rattle.one_solver.specs.Units.{is_short, is_empty, is_unit, HasNoUnits, IsFixed, FixesUnits, TookSame}
@@ -187,9 +187,8 @@ pub fixing_step : (first k n : Kernel) (o : OwnLit) → Standing k → is_active
 fixing_step first k n o s a e h =
     record {
       basic = record {
-        items = ap (λ (z : State). list_all is_clause z.items) e ∙ h.basic.items;
         entries = ap (λ (z : State). z.entries) e ∙ h.basic.entries;
-        outer = ap (λ (z : State). list_all is_none z.definitions) e ∙ h.basic.outer;
+        few = subst (λ (z : State). length z.definitions ≤ own_count (problem_of z)) (sym e) h.basic.few;
         kept = ap (λ (z : State). list_all (λ x. not (is_gone x)) z.stack) e ∙ (list_all-append (λ x. not (is_gone x)) k.stack (Fix o ∷ []) ∙ and_from _ _ h.basic.kept refl);
       };
       same = record {
@@ -253,7 +252,7 @@ fixing_end first k h n l u = ⊎_elim (λ f. absurd (none (is_unit (same_lit l))
 
 -- new ids of clauses change nothing of this
 pub renumbered_basic : (k n : Kernel) → n ≡ record k { store = n.store } → IsBasic k → IsBasic n
-renumbered_basic k n e b = subst (λ (z : Kernel). IsBasic z) (sym e) (record { items = b.items; entries = b.entries; outer = b.outer; kept = b.kept })
+renumbered_basic k n e b = subst (λ (z : Kernel). IsBasic z) (sym e) (record { entries = b.entries; few = b.few; kept = b.kept })
 
 pub renumbered_same : (first k n : Kernel) → n ≡ record k { store = n.store } → TookSame first k → TookSame first n
 renumbered_same first k n e t = subst (λ (z : Kernel). TookSame first z) (sym e) (record { items = t.items; entries = t.entries; definitions = t.definitions; okay = t.okay })

@@ -1,15 +1,17 @@
 -- What a state of this kind can take.
-use Rattle.std.proofs.Common.{◌≡◌, ℕ, zero, suc, ◌+◌, ◌-◌, ◌≤◌, ◌==◌, Bool, true, false, cond, not, List, [], ◌∷◌, ◌++◌, Option, Some, None, refl, sym, ap, ap₂, subst, ◌∙◌, length, take, drop, replicate, arith, take_all, append_assoc}
+use Rattle.std.proofs.Common.{◌≡◌, ℕ, zero, suc, ◌+◌, ◌-◌, ◌^◌, ◌<◌, ◌≤◌, ◌==◌, Bool, true, false, cond, not, List, [], ◌∷◌, ◌++◌, Option, Some, None, refl, sym, ap, ap₂, subst, ◌∙◌, length, map, sum, get_or, take, drop, replicate, arith, take_all, append_assoc}
 use Rattle.std.specs.List.{list_all}
-use Rattle.std.specs.Option.{is_none}
 use Rattle.std.proofs.lemmas.Bool.{and_parts, and_from, false≢true}
-use Rattle.std.proofs.lemmas.List.{length-append, length-replicate, take-append-drop}
+use Rattle.std.proofs.lemmas.List.{length-append, length-map, length-replicate, map-append, take-append-drop}
 use Rattle.std.proofs.lemmas.List.Folds.{list_all-append}
+use Rattle.std.proofs.lemmas.List.Sums.{sum_by-append, sum_by-cons}
 use Rattle.std.proofs.Math.Seq.{drop-append_seam}
+use Rattle.sat_lits.specs.Conflicts.{cuts, own_count}
 use Rattle.sat_lits.specs.Meaning.{Problem}
 use Rattle.sat_lits.specs.Formulas.{Extends, names_known, no_problem}
 use Rattle.sat_lits.specs.FollowLaws.{Extends_itself}
 use Rattle.sat_lits.specs.declared.literal.Lit.{Lit}
+use Rattle.sat_lits.specs.declared.literal.Var.{Var}
 use Rattle.sat_lits.specs.declared.literal.OwnLit.{OwnLit}
 use Rattle.sat_lits.specs.declared.formula.Item.{Item}
 use Rattle.sat_lits.specs.declared.formula.Item.TheVariants.{Clause, Parity}
@@ -21,11 +23,17 @@ use Rattle.rebuild_stack.specs.declared.entry.Root.TheVariants.{Known}
 use Rattle.sat_lits.specs.Truth.{signed}
 use Rattle.state_laws.specs.declared.definition.Definition.{Definition}
 use Rattle.state_laws.specs.State.{State, outers_from, outer_count, to_own, problem_of}
+use Rattle.state_laws.specs.Conditions.{Takable}
+use Rattle.state_laws.specs.ExtendLaws.{outers_from-append}
 use Rattle.state_laws.specs.Moves.{grown}
 use Rattle.state_laws.specs.Kernel.{Kernel, state_of}
-use Rattle.private_state.specs.Taking.{IsTakable}
-use Rattle.one_solver.specs.Basic.{is_clause, IsBasic}
-use Rattle.one_solver.specs.Taken.{HasTaken}
+use Rattle.private_state.specs.Taking.{IsTakable, item_taken}
+use Rattle.private_state.specs.Parities.{var_root, parity_pieces, definitions_of}
+use Rattle.private_state.proofs.Collecting.{taken_at}
+use Rattle.private_state.proofs.ParityRoots.{few_cuts}
+use Rattle.private_state.proofs.KernelParity.{parity_definitions}
+use Rattle.one_solver.specs.Basic.{IsBasic}
+use Rattle.one_solver.specs.Taken.{HasTaken, with_items}
 
 -- where no variable was taken out, no literal is lost
 never_lost : (s : List Entry) → list_all (λ e. not (is_gone e)) s ≡ true → (l : OwnLit) → is_lost (root s l) ≡ false
@@ -43,45 +51,137 @@ never_lost (Equal v k ∷ newer) e l = go (l.var.0 == v.0) (never_lost newer e (
 never_lost (Gone v cs ∷ newer) e l = absurd (false≢true e)
 
 -- a clause over variables that are there can be taken
-pub can_take : (k : Kernel) (item : Item) → IsBasic k → is_clause item ≡ true → names_known (outer_count k.definitions) item ≡ true → IsTakable (state_of k) item
-can_take k (Clause c) b e f = record { there = f; roots = none c }
+pub clause_takable : (k : Kernel) (c : List Lit) → IsBasic k → names_known (outer_count k.definitions) (Clause c) ≡ true → Takable (state_of k) c
+clause_takable k c b f = record { there = f; roots = none c }
   where
     none : (ls : List Lit) → list_all (λ l. not (is_lost (root k.stack (to_own k.definitions l)))) ls ≡ true
     none [] = refl
     none (l ∷ ls) = and_from _ _ (ap not (never_lost k.stack b.kept (to_own k.definitions l))) (none ls)
-can_take k (Parity vars rhs) b e f = absurd (false≢true e)
 
--- where no variable is private, there are as many outer ones as own ones
-all_outer : (n : ℕ) (ds : List (Option Definition)) → list_all is_none ds ≡ true → length (outers_from n ds) ≡ length ds
-all_outer n [] e = refl
-all_outer n (None ∷ ds) e = ap suc (all_outer (suc n) ds e)
-all_outer n (Some d ∷ ds) e = absurd (false≢true e)
+-- an item over variables that are there can be taken, where its cuts have room
+pub can_take : (k : Kernel) (item : Item) → IsBasic k → names_known (outer_count k.definitions) item ≡ true → length k.definitions + cuts item ≤ 2 ^ 31 → IsTakable (state_of k) item
+can_take k (Clause c) b f r = clause_takable k c b f
+can_take k (Parity vars rhs) b f r = record { there = f; roots = none vars; room = r }
+  where
+    none : (vs : List Var) → list_all (λ v. not (is_lost (var_root (state_of k) v.0))) vs ≡ true
+    none [] = refl
+    none (v ∷ vs) = and_from _ _ (ap not (never_lost k.stack b.kept (to_own k.definitions (record { var = record { 0 = v.0 }; negative = false })))) (none vs)
 
-pub outer_length : (k : Kernel) → IsBasic k → outer_count k.definitions ≡ length k.definitions
-outer_length k b = all_outer 0 k.definitions b.outer
+-- outer variables count, and private ones do not
+nones : (n more : ℕ) → length (outers_from n (replicate more None)) ≡ more
+nones n zero = refl
+nones n (suc more) = ap suc (nones (suc n) more)
 
--- so it has room for as many variables as a formula may have
-pub has_room : (k : Kernel) (vars most : ℕ) → IsBasic k → outer_count k.definitions ≤ vars → vars ≤ most → length k.definitions + (vars - outer_count k.definitions) ≤ most
-has_room k vars most b old new = omega (arith, outer_length k b)
+somes : (n : ℕ) (ds : List Definition) → length (outers_from n (map Some ds)) ≡ 0
+somes n [] = refl
+somes n (d ∷ ds) = somes (suc n) ds
 
-none_more : (n : ℕ) → list_all {X = Option Definition} is_none (replicate n None) ≡ true
-none_more zero = refl
-none_more (suc n) = none_more n
+outer_more : (a b : List (Option Definition)) → outer_count (a ++ b) ≡ outer_count a + length (outers_from (0 + length a) b)
+outer_more a b = ap length (outers_from-append 0 a b) ∙ length-append (outers_from 0 a) (outers_from (0 + length a) b)
+
+-- the cuts of two parts of the items
+cuts-append : (a b : List Item) → sum (map cuts (a ++ b)) ≡ sum (map cuts a) + sum (map cuts b)
+cuts-append a b = ap sum (map-append cuts a b) ∙ sum_by-append (λ n. n) (map cuts a) (map cuts b)
+
+one_cut : (item : Item) → sum (map cuts (item ∷ [])) ≡ cuts item
+one_cut item = sum_by-cons (λ n. n) (cuts item) [] ∙ omega arith
+
+-- an item more is taken
+pub one_taken : (k n : Kernel) (item : Item) → state_of n ≡ item_taken item (state_of k) → HasTaken k n (item ∷ [])
+one_taken k n (Clause c) e = record { items = ap (λ (z : State). z.items) e; outers = ap (λ (z : State). outer_count z.definitions) e; okay = ap (λ (z : State). z.okay) e }
+one_taken k n (Parity vars rhs) e = record {
+  items = ap (λ (z : State). z.items) e;
+  outers =
+      let ds : List Definition = definitions_of (parity_pieces (state_of k) vars rhs) in
+      let m : outer_count n.definitions ≡ outer_count (k.definitions ++ map Some ds) = ap (λ (z : State). outer_count z.definitions) e in
+      omega (arith, m, outer_more k.definitions (map Some ds), somes (0 + length k.definitions) ds);
+  okay = ap (λ (z : State). z.okay) e;
+}
+
+-- with no more own variables than it has cuts
+own_more : (k n : Kernel) (item : Item) → state_of n ≡ item_taken item (state_of k) → length n.definitions ≤ length k.definitions + cuts item
+own_more k n (Clause c) e = let m : length n.definitions ≡ length k.definitions = ap (λ (z : State). length z.definitions) e in omega (arith, m)
+own_more k n (Parity vars rhs) e =
+    let ds : List Definition = definitions_of (parity_pieces (state_of k) vars rhs) in
+    let m : length n.definitions ≡ length k.definitions + length ds =
+    ap (λ (z : State). length z.definitions) e ∙ (length-append k.definitions (map Some ds) ∙ ap (λ (j : ℕ). length k.definitions + j) (length-map ds (λ (d : Definition). Some d))) in
+    omega (arith, m, parity_definitions k vars rhs, few_cuts (state_of k) vars rhs)
+
+pub basic_taken : (k n : Kernel) (item : Item) → IsBasic k → state_of n ≡ item_taken item (state_of k) → IsBasic n
+basic_taken k n item b e = record { entries = entries item e ∙ b.entries; few = few; kept = ap (list_all (λ x. not (is_gone x))) (stack item e) ∙ b.kept }
+  where
+    entries : (i : Item) → state_of n ≡ item_taken i (state_of k) → n.entries ≡ k.entries
+    entries (Clause c) f = ap (λ (z : State). z.entries) f
+    entries (Parity vars rhs) f = ap (λ (z : State). z.entries) f
+
+    stack : (i : Item) → state_of n ≡ item_taken i (state_of k) → n.stack ≡ k.stack
+    stack (Clause c) f = ap (λ (z : State). z.stack) f
+    stack (Parity vars rhs) f = ap (λ (z : State). z.stack) f
+
+    few : length n.definitions ≤ own_count (problem_of (state_of n))
+    few =
+        let h : HasTaken k n (item ∷ []) = one_taken k n item e in
+        let s : sum (map cuts n.items) ≡ sum (map cuts (k.items ++ item ∷ [])) = ap (λ (is : List Item). sum (map cuts is)) h.items in
+        omega (arith, b.few, own_more k n item e, h.outers, s, cuts-append k.items (item ∷ []), one_cut item)
+
+-- where the next item was taken behind the first ones, these and it were taken
+pub taken_next : (first k n : Kernel) (items : List Item) (i : ℕ) (item : Item) → HasTaken first k (take i items) → i < length items → item ≡ get_or items i item → state_of n ≡ item_taken item (state_of k) → HasTaken first n (take (i + 1) items)
+taken_next first k n items i item h l g e =
+    let o : HasTaken k n (item ∷ []) = one_taken k n item e in
+    record {
+      items =
+          o.items
+          ∙ (ap (λ z. z ++ item ∷ []) h.items
+          ∙ (append_assoc first.items (take i items) (item ∷ []) ∙ (ap (λ (x : Item). first.items ++ (take i items ++ x ∷ [])) g ∙ ap (λ z. first.items ++ z) (sym (taken_at items i item l)))));
+      outers = o.outers ∙ h.outers;
+      okay = o.okay ∙ h.okay;
+    }
+
+-- the cuts of the first items and of the next one are some of the cuts of all
+cuts_at : (items : List Item) (i : ℕ) (d : Item) → i < length items → sum (map cuts (take i items)) + cuts (get_or items i d) ≤ sum (map cuts items)
+cuts_at [] i d l = absurd (omega arith)
+cuts_at (x ∷ xs) zero d l = omega (arith, sum_by-cons (λ (n : ℕ). n) (cuts x) (map cuts xs))
+cuts_at (x ∷ xs) (suc i) d l =
+    omega (arith, cuts_at xs i d (omega arith), sum_by-cons (λ (n : ℕ). n) (cuts x) (map cuts xs), sum_by-cons (λ (n : ℕ). n) (cuts x) (map cuts (take i xs)))
+
+-- so the next one has room
+pub next_room : (first k : Kernel) (items : List Item) (i : ℕ) (item : Item) → IsBasic k → HasTaken first k (take i items) → i < length items → item ≡ get_or items i item → own_count (with_items first items) ≤ 2 ^ 31 → length k.definitions + cuts item ≤ 2 ^ 31
+next_room first k items i item b h l g r =
+    let s : sum (map cuts k.items) ≡ sum (map cuts (first.items ++ take i items)) = ap (λ (is : List Item). sum (map cuts is)) h.items in
+    let c : cuts item ≡ cuts (get_or items i item) = ap cuts g in
+    omega (arith, b.few, h.outers, s, c, cuts-append first.items (take i items), cuts-append first.items items, cuts_at items i item l, r)
+
+-- the cuts of the items that were taken are some of the cuts of the formula
+pub front_cuts : (f : Problem) (items more : List Item) → f.items ≡ items ++ more → own_count f ≡ f.vars + sum (map cuts items) + sum (map cuts more)
+front_cuts f items more e = let s : sum (map cuts f.items) ≡ sum (map cuts (items ++ more)) = ap (λ (is : List Item). sum (map cuts is)) e in omega (arith, s, cuts-append items more)
+
+-- there is room for the variables of a formula
+pub has_room : (k : Kernel) (f : Problem) → IsBasic k → Extends (problem_of (state_of k)) f → own_count f ≤ 2 ^ 31 → length k.definitions + (f.vars - outer_count k.definitions) ≤ 2 ^ 31
+has_room k f b x r = omega (arith, b.few, x.vars, front_cuts f k.items x.more x.items, r)
+
+-- and for the items behind those that were taken
+pub rest_room : (f : Problem) (g : Kernel) (more : List Item) → outer_count g.definitions ≡ f.vars → f.items ≡ g.items ++ more → own_count f ≤ 2 ^ 31 → own_count (with_items g more) ≤ 2 ^ 31
+rest_room f g more v e r = omega (arith, v, front_cuts f g.items more e, cuts-append g.items more, r)
 
 -- outer variables were made
+pub grown_outers : (k g : Kernel) (more : ℕ) → state_of g ≡ grown more (state_of k) → outer_count g.definitions ≡ outer_count k.definitions + more
+grown_outers k g more e =
+    let m : outer_count g.definitions ≡ outer_count (k.definitions ++ replicate more None) = ap (λ (z : State). outer_count z.definitions) e in
+    omega (arith, m, outer_more k.definitions (replicate more None), nones (0 + length k.definitions) more)
+
 pub grown_basic : (k g : Kernel) (more : ℕ) → IsBasic k → state_of g ≡ grown more (state_of k) → IsBasic g
 grown_basic k g more b e = record {
-  items = ap (λ (z : State). list_all is_clause z.items) e ∙ b.items;
   entries = ap (λ (z : State). z.entries) e ∙ b.entries;
-  outer = ap (λ (z : State). list_all is_none z.definitions) e ∙ (list_all-append is_none k.definitions (replicate more None) ∙ and_from _ _ b.outer (none_more more));
+  few =
+      let n : length g.definitions ≡ length k.definitions + more =
+      ap (λ (z : State). length z.definitions) e ∙ (length-append k.definitions (replicate more None) ∙ ap (λ (j : ℕ). length k.definitions + j) (length-replicate more None)) in
+      let s : sum (map cuts g.items) ≡ sum (map cuts k.items) = ap (λ (z : State). sum (map cuts z.items)) e in
+      omega (arith, b.few, n, s, grown_outers k g more e);
   kept = ap (λ (z : State). list_all (λ x. not (is_gone x)) z.stack) e ∙ b.kept;
 }
 
-pub grown_count : (k g : Kernel) (vars : ℕ) → IsBasic k → outer_count k.definitions ≤ vars → state_of g ≡ grown (vars - outer_count k.definitions) (state_of k) → outer_count g.definitions ≡ vars
-grown_count k g vars b old e =
-    let n : length g.definitions ≡ length k.definitions + (vars - outer_count k.definitions) =
-    ap (λ (z : State). length z.definitions) e ∙ (length-append k.definitions (replicate (vars - outer_count k.definitions) None) ∙ ap (λ m. length k.definitions + m) (length-replicate (vars - outer_count k.definitions) None)) in
-    omega (arith, n, outer_length k b, outer_length g (grown_basic k g (vars - outer_count k.definitions) b e))
+pub grown_count : (k g : Kernel) (vars : ℕ) → outer_count k.definitions ≤ vars → state_of g ≡ grown (vars - outer_count k.definitions) (state_of k) → outer_count g.definitions ≡ vars
+grown_count k g vars old e = omega (arith, old, grown_outers k g (vars - outer_count k.definitions) e)
 
 -- what is left of a formula's items behind those that were taken
 pub rest_is : (all old more : List Item) (n : ℕ) → all ≡ old ++ more → n ≡ length old → take (length all - n) (drop n all) ≡ more
@@ -97,7 +197,7 @@ rest_passes p all old more e h = (and_parts _ _ (sym (list_all-append p old more
 -- some of the rest was taken
 pub took_some : (f : Problem) (g n : Kernel) (more : List Item) (m : ℕ) → outer_count g.definitions ≡ f.vars → f.items ≡ g.items ++ more → HasTaken g n (take m more) → Extends (problem_of (state_of n)) f
 took_some f g n more m v e h = record {
-  vars = omega (arith, v, ap (λ (z : List (Option Definition)). outer_count z) h.definitions);
+  vars = omega (arith, v, h.outers);
   more = drop m more;
   items = e ∙ (ap (λ z. g.items ++ z) (sym (take-append-drop m more)) ∙ (sym (append_assoc g.items (take m more) (drop m more)) ∙ ap (λ z. z ++ drop m more) (sym h.items)));
 }
@@ -105,7 +205,7 @@ took_some f g n more m v e h = record {
 -- and all of it
 pub took_all : (f : Problem) (g n : Kernel) (more : List Item) → outer_count g.definitions ≡ f.vars → f.items ≡ g.items ++ more → HasTaken g n more → problem_of (state_of n) ≡ f
 took_all f g n more v e h =
-    ap₂ (λ (x : ℕ) (y : List Item). let z : Problem = record { vars = x; items = y } in z) (ap (λ (z : List (Option Definition)). outer_count z) h.definitions ∙ v) (h.items ∙ sym e)
+    ap₂ (λ (x : ℕ) (y : List Item). let z : Problem = record { vars = x; items = y } in z) (h.outers ∙ v) (h.items ∙ sym e)
 
 pub took_front : (f : Problem) (g n : Kernel) (more : List Item) → outer_count g.definitions ≡ f.vars → f.items ≡ g.items ++ more → HasTaken g n more → Extends (problem_of (state_of n)) f
 took_front f g n more v e h = subst (λ (x : Problem). Extends x f) (sym (took_all f g n more v e h)) (Extends_itself f)
@@ -113,7 +213,7 @@ took_front f g n more v e h = subst (λ (x : Problem). Extends x f) (sym (took_a
 -- what was taken goes on from what was taken before
 pub took_longer : (f : Problem) (k g n : Kernel) (more : List Item) → outer_count g.definitions ≡ f.vars → outer_count k.definitions ≤ f.vars → g.items ≡ k.items → HasTaken g n more → Extends (problem_of (state_of k)) (problem_of (state_of n))
 took_longer f k g n more v w e h = record {
-  vars = omega (arith, v, ap (λ (z : List (Option Definition)). outer_count z) h.definitions);
+  vars = omega (arith, v, h.outers);
   more = more;
   items = h.items ∙ ap (λ z. z ++ more) e;
 }

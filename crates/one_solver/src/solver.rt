@@ -8,7 +8,6 @@ ghost use Rattle.state_laws.specs.Conditions.{IsContradicted};
 ghost use Rattle.state_laws.specs.Kernel.{state_of, Standing};
 ghost use Rattle.search.specs.Answers.{IsInnerModel, AreFailed};
 ghost use Rattle.analyze.specs.Counting.{saturated};
-ghost use Rattle.one_solver.specs.Basic.{is_clause};
 ghost use Rattle.one_solver.specs.Learned.{HasFewLong};
 ghost use Rattle.one_solver.specs.Parts.{problem_in, SameCall, AssumesKnown};
 ghost use Rattle.one_solver.specs.Assuming.{IsMappedTo, AreContradicted};
@@ -36,8 +35,9 @@ const KEPT_MORE: u64 = 100;
 
 /// One solver with a state of its own.
 ///
-/// It takes clauses alone today. After want of memory from any call it still stands for the items
-/// that it took.
+/// It takes clauses and parities. A parity over more than four variables is cut into pieces of
+/// four, each cut with a private variable of its own. After want of memory from any call it still
+/// stands for the items that it took.
 #[derive(Debug, Drop)]
 pub struct OneSolver {
     alloc: Global,
@@ -82,12 +82,11 @@ impl OneSolver {
         }
     }
 
-    /// Grows to the formula's number of variables, and takes its items from `taken` on. They are
-    /// clauses, and those that were taken are the formula's first ones. The only error is want of
-    /// memory: then some of the items may be taken, in order, and none that was taken is lost.
+    /// Grows to the formula's number of variables, and takes its items from `taken` on. Those that
+    /// were taken are the formula's first ones. The only error is want of memory: then some of the
+    /// items may be taken, in order, and none that was taken is lost.
     pub fn absorb(&mut self, formula: &Formula) -> Result<(), NoMemory>
         requires front { Extends (problem_in self.old) formula.now.problem }
-        requires clauses { IsTrue (list_all is_clause formula.now.problem.items) }
         ensures ok { OnOk result (problem_in self.new ≡ formula.now.problem) }
         ensures front { Extends (problem_in self.new) formula.now.problem }
         ensures longer { Extends (problem_in self.old) (problem_in self.new) }

@@ -1,10 +1,11 @@
-ghost use Rattle.std.specs.Prelude.{◌≡◌, ℕ, take, OnOk, IsTrue};
+ghost use Rattle.std.specs.Prelude.{◌≡◌, ◌≤◌, ◌^◌, ℕ, take, OnOk, IsTrue};
 ghost use Rattle.std.specs.List.{list_all};
+ghost use Rattle.sat_lits.specs.Conflicts.{own_count};
 ghost use Rattle.sat_lits.specs.Formulas.{Extends, names_known};
 ghost use Rattle.state_laws.specs.State.{outer_count, problem_of};
 ghost use Rattle.state_laws.specs.Kernel.{state_of};
-ghost use Rattle.one_solver.specs.Basic.{is_clause, IsBasic};
-ghost use Rattle.one_solver.specs.Taken.{HasTaken};
+ghost use Rattle.one_solver.specs.Basic.{IsBasic};
+ghost use Rattle.one_solver.specs.Taken.{HasTaken, with_items};
 
 use private_state::PrivateState;
 use sat_lits::{Formula, Item, NoMemory};
@@ -13,7 +14,6 @@ use sat_lits::{Formula, Item, NoMemory};
 pub fn take_formula(state: &mut PrivateState, formula: &Formula) -> Result<(), NoMemory>
     requires basic { IsBasic state.old }
     requires front { Extends (problem_of (state_of state.old)) formula.now.problem }
-    requires clauses { IsTrue (list_all is_clause formula.now.problem.items) }
     ensures basic { IsBasic state.new }
     ensures ok { OnOk result (problem_of (state_of state.new) ≡ formula.now.problem) }
     ensures front { Extends (problem_of (state_of state.new)) formula.now.problem }
@@ -26,10 +26,10 @@ pub fn take_formula(state: &mut PrivateState, formula: &Formula) -> Result<(), N
     Ok(())
 }
 
-/// Takes clauses over variables that are there.
+/// Takes items over variables that are there.
 fn take_items(state: &mut PrivateState, items: &[Item]) -> Result<(), NoMemory>
     requires basic { IsBasic state.old }
-    requires clauses { IsTrue (list_all is_clause items.now) }
+    requires room { own_count (with_items state.old items.now) ≤ 2 ^ 31 }
     requires known { IsTrue (list_all (names_known (outer_count state.old.definitions)) items.now) }
     ensures basic { IsBasic state.new }
     ensures ok { OnOk result (HasTaken state.old state.new items.now) }

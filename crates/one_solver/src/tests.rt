@@ -1,13 +1,11 @@
 ghost use Rattle.std.specs.Prelude.{◌≡◌, IfOk};
-ghost use Rattle.std.specs.List.{list_all};
 ghost use Rattle.sat_lits.specs.Formulas.{names_known};
 ghost use Rattle.sat_lits.specs.declared.formula.Item.TheVariants.{Clause};
-ghost use Rattle.one_solver.specs.Basic.{is_clause};
 ghost use Rattle.one_solver.specs.Steps.{IsUnderWay};
 
 use crate::{OneSolver, StepAnswer};
 use analyze::Tally;
-use sat_lits::{Formula, Item, Limits, List, Lit, NoMemory, Var, Verdict};
+use sat_lits::{Formula, Limits, List, Lit, NoMemory, Var, Verdict};
 use sat_ports::Silent;
 use std::alloc::Global;
 use std::process::Abort;
@@ -34,16 +32,18 @@ fn formula_of(alloc: Global, vars: u32, clauses: &[&[i32]]) -> Result<Formula, F
     Ok(formula)
 }
 
-fn is_clause(item: &Item) -> bool
-    ensures { result ≡ is_clause item.now }
-{
-    matches!(item, Item::Clause(_))
-}
-
-fn are_clauses(items: &[Item]) -> bool
-    ensures { result ≡ list_all is_clause items.now }
-{
-    items.iter().all(is_clause)
+/// A formula of parities over variables that are counted from 1, each with the right side true.
+fn parities_of(alloc: Global, vars: u32, parities: &[&[u32]]) -> Result<Formula, Fail> {
+    let mut formula = Formula::new(alloc, Limits::standard());
+    formula.grow(vars)?;
+    for parity in parities {
+        let mut numbers = List::new(alloc);
+        for number in *parity {
+            numbers.push(Var(number.wrapping_sub(1)))?;
+        }
+        formula.push_parity(numbers.as_slice(), true)?;
+    }
+    Ok(formula)
 }
 
 /// A solver that took a formula and began a call.
@@ -70,7 +70,6 @@ fn start_under(
     ensures under_way { IfOk result (λ solver. IsUnderWay solver) }
     ensures conflicts { IfOk result (λ solver. solver.conflicts ≡ 0) }
 {
-    assert!(rt; are_clauses(formula.items()));
     assert!(rt; are_known(formula.vars(), assumptions));
     assert!(rt; assumptions.len() <= 100);
     let mut solver = OneSolver::new(alloc, 0);
@@ -175,6 +174,27 @@ fn assumptions_that_are_fixed_false_or_opposite_fail(rt: HostRuntime) -> Result<
     let assumptions = [literal(-1), literal(3), literal(2), literal(-3)];
     let opposite = failed_of(&rt, rt.alloc(), &formula, &assumptions)?;
     assert_eq!(rt; opposite.as_slice(), [literal(3), literal(-3)].as_slice());
+    Ok(())
+}
+
+#[test]
+fn parities_that_contradict_each_other_have_no_model(rt: HostRuntime) -> Result<(), Fail> {
+    let short = parities_of(rt.alloc(), 3, &[&[1, 2], &[2, 3], &[1, 3]])?;
+    let failed = failed_of(&rt, rt.alloc(), &short, &[])?;
+    assert!(rt; failed.as_slice().is_empty());
+    let cut = parities_of(
+        rt.alloc(),
+        8,
+        &[
+            &[1, 2, 3, 4, 5, 6, 7, 8],
+            &[1, 2],
+            &[3, 4],
+            &[5, 6],
+            &[7, 8],
+        ],
+    )?;
+    let failed = failed_of(&rt, rt.alloc(), &cut, &[])?;
+    assert!(rt; failed.as_slice().is_empty());
     Ok(())
 }
 

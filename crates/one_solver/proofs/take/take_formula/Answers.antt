@@ -1,22 +1,23 @@
-use Rattle.std.proofs.Common.{◌≡◌, ℕ, ◌-◌, ◌≤◌, ◌++◌, true, List, length, take, drop, ap, sym, subst, ◌∙◌, arith}
+use Rattle.std.proofs.Common.{◌≡◌, ℕ, ◌-◌, ◌+◌, ◌^◌, ◌<◌, ◌≤◌, ◌++◌, true, List, length, take, drop, ap, sym, subst, ◌∙◌, arith}
 use Rattle.std.specs.List.{list_all}
+use Rattle.sat_lits.specs.Conflicts.{own_count}
+use Rattle.sat_lits.specs.ConflictLaws.{own_count-few}
 use Rattle.sat_lits.specs.Formulas.{names_known}
 use Rattle.sat_lits.specs.declared.formula.Item.{Item}
 use Rattle.state_laws.specs.State.{State, outer_count}
-use Rattle.one_solver.specs.Taken.{HasTaken}
-use Rattle.one_solver.proofs.Taking.{has_room, grown_basic, grown_count, rest_is, rest_passes, took_some, took_all, took_front, took_longer}
+use Rattle.one_solver.specs.Taken.{HasTaken, with_items}
+use Rattle.one_solver.proofs.Taking.{has_room, grown_basic, grown_count, rest_is, rest_passes, rest_room, took_some, took_all, took_front, took_longer}
 use Rattle.one_solver.proofs.take.take_formula.Goals as goal
 use Rattle.one_solver.proofs.take.take_formula.Goals.{After-items}
 
 pub grow-requires : goal.grow-requires
 grow-requires c =
-    has_room c.args.state.now c.vars.result 2147483648 c.requires.basic (subst (λ (n : ℕ). outer_count c.args.state.now.definitions ≤ n) (sym c.vars.ensures.value) c.requires.front.vars)
-    (let few : c.args.formula.now.problem.vars ≤ c.args.formula.now.limits.vars = c.vars.ensures.within.few_vars in
-    let standard = c.vars.ensures.within.standard.vars_fit in
-    subst (λ (n : ℕ). n ≤ 2147483648) (sym c.vars.ensures.value) (omega arith))
+    let few : own_count c.args.formula.now.problem < 2 ^ 25 = own_count-few c.args.formula.now c.vars.ensures.within in
+    subst (λ (n : ℕ). length c.args.state.now.definitions + (n - outer_count c.args.state.now.definitions) ≤ 2 ^ 31) (sym c.vars.ensures.value)
+    (has_room c.args.state.now c.args.formula.now.problem c.requires.basic c.requires.front (omega (arith, few)))
 
 known : (c : After-items) → outer_count c.grow.new.self.definitions ≡ c.args.formula.now.problem.vars
-known c = grown_count c.args.state.now c.grow.new.self c.vars.result c.requires.basic (subst (λ (n : ℕ). outer_count c.args.state.now.definitions ≤ n) (sym c.vars.ensures.value) c.requires.front.vars) c.in_ok-grow.ensures.ok ∙ c.vars.ensures.value
+known c = grown_count c.args.state.now c.grow.new.self c.vars.result (subst (λ (n : ℕ). outer_count c.args.state.now.definitions ≤ n) (sym c.vars.ensures.value) c.requires.front.vars) c.in_ok-grow.ensures.ok ∙ c.vars.ensures.value
 
 items : (c : After-items) → c.args.formula.now.problem.items ≡ c.grow.new.self.items ++ c.requires.front.more
 items c = c.requires.front.items ∙ ap (λ (z : State). z.items ++ c.requires.front.more) (sym c.in_ok-grow.ensures.ok)
@@ -33,6 +34,12 @@ take_items-requires-clause-known c =
     subst (λ (xs : List Item). list_all (names_known (outer_count c.grow.new.self.definitions)) xs ≡ true) (sym (rest d))
     (rest_passes (names_known (outer_count c.grow.new.self.definitions)) c.args.formula.now.problem.items c.grow.new.self.items c.requires.front.more (items d)
     (subst (λ (n : ℕ). list_all (names_known n) c.args.formula.now.problem.items ≡ true) (sym (known d)) c.items.ensures.within.known))
+
+pub take_items-requires-clause-room : goal.take_items-requires-clause-room
+take_items-requires-clause-room c =
+    let d : After-items = (goal.at.take_items-requires-clause-room c).After-items in
+    let few : own_count c.args.formula.now.problem < 2 ^ 25 = own_count-few c.args.formula.now c.vars.ensures.within in
+    subst (λ (xs : List Item). own_count (with_items c.grow.new.self xs) ≤ 2 ^ 31) (sym (rest d)) (rest_room c.args.formula.now.problem c.grow.new.self c.requires.front.more (known d) (items d) (omega (arith, few)))
 
 pub returns-in_err-take_items-clause-front : goal.returns-in_err-take_items-clause-front
 returns-in_err-take_items-clause-front c =

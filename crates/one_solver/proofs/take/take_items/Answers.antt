@@ -1,10 +1,8 @@
-use Rattle.std.proofs.Common.{◌≡◌, true, List, Option, ap, ◌∙◌}
+use Rattle.std.proofs.Common.{◌≡◌, true, ap, ◌∙◌}
 use Rattle.sat_lits.specs.ListLaws.{all_at}
 use Rattle.sat_lits.specs.Formulas.{names_known}
-use Rattle.state_laws.specs.declared.definition.Definition.{Definition}
 use Rattle.state_laws.specs.State.{outer_count}
-use Rattle.one_solver.specs.Basic.{is_clause}
-use Rattle.one_solver.proofs.Taking.{can_take}
+use Rattle.one_solver.proofs.Taking.{can_take, next_room, basic_taken, taken_next}
 use Rattle.one_solver.proofs.take.take_items.Goals as goal
 
 pub take_input-requires : goal.take_input-requires
@@ -12,6 +10,11 @@ take_input-requires c =
     let known : names_known (outer_count c.args.state.now.definitions) c.item-item.result ≡ true =
     ap (names_known (outer_count c.args.state.now.definitions)) c.item-item.is
     ∙ all_at (names_known (outer_count c.args.state.now.definitions)) c.args.items.now c.loop-item.item-index c.item-item.result c.loop-item-test.true c.requires.known in
-    can_take c.loop-item.state c.item-item.result c.loop-item.invariant.basic
-    (ap is_clause c.item-item.is ∙ all_at is_clause c.args.items.now c.loop-item.item-index c.item-item.result c.loop-item-test.true c.requires.clauses)
-    (ap (λ (ds : List (Option Definition)). names_known (outer_count ds) c.item-item.result) c.loop-item.invariant.taken.definitions ∙ known)
+    can_take c.loop-item.state c.item-item.result c.loop-item.invariant.basic (ap (λ n. names_known n c.item-item.result) c.loop-item.invariant.taken.outers ∙ known)
+    (next_room c.args.state.now c.loop-item.state c.args.items.now c.loop-item.item-index c.item-item.result c.loop-item.invariant.basic c.loop-item.invariant.taken c.loop-item-test.true c.item-item.is c.requires.room)
+
+pub loop-item-preserved : goal.loop-item-preserved
+loop-item-preserved c = record {
+  basic = basic_taken c.loop-item.state c.take_input.new.self c.item-item.result c.loop-item.invariant.basic c.in_ok-take_input.ensures.ok;
+  taken = taken_next c.args.state.now c.loop-item.state c.take_input.new.self c.args.items.now c.loop-item.item-index c.item-item.result c.loop-item.invariant.taken c.loop-item-test.true c.item-item.is c.in_ok-take_input.ensures.ok;
+}
