@@ -6,9 +6,9 @@ Run it from anywhere, with Python 3 and no arguments:
     tools/check_tour.py
 
 crates/library_tour/stdout was written by hand, and the gate compares it with what the tour prints.
-This script reads it line by line as calls and answers, keeps the clauses that were taken, and says
-of each answer whether it is right: a refusal by the rule that it names, an answer by a trial of all
-assignments, or by the number of pigeons and holes. It ends with status 1 at the first wrong line.
+This script reads it line by line as calls and answers, keeps the clauses and parities that were
+taken, and says of each answer whether it is right: a refusal by the rule that it names, an answer
+by a trial of all assignments, or by the number of pigeons and holes. It ends with status 1 at the first wrong line.
 The proofs and the tests need none of this.
 """
 
@@ -21,6 +21,7 @@ EXPECTED = Path(__file__).resolve().parent.parent / "crates" / "library_tour" / 
 GREATEST_VARS = 16777215
 GREATEST_LITS = 33554432
 OWN_LIMITS = re.compile(r"# At most (\d+) variables and (\d+) literals")
+COUNT = re.compile(r"models of x(\[.*\]) (true|false) with (\[.*\]) over (\d+) variables")
 LITERAL = re.compile(r"Lit { var: Var\((\d+)\), negative: (true|false) }")
 
 
@@ -29,7 +30,7 @@ class Solver:
 
     def __init__(self, most_vars=GREATEST_VARS, most_lits=GREATEST_LITS):
         self.most_vars, self.most_lits = most_vars, most_lits
-        self.vars, self.clauses, self.lits = 0, [], 0
+        self.vars, self.clauses, self.parities, self.lits = 0, [], [], 0
         self.pigeons = None
         self.okay = True
         self.assumptions = []
@@ -55,6 +56,16 @@ class Solver:
         self.forget()
         return "Ok(())"
 
+    def add_parity(self, variables, rhs):
+        if refusal := self.refusal(variables):
+            return refusal
+        if self.lits + len(variables) > self.most_lits:
+            return "Err(TooManyLits)"
+        self.parities.append((variables, rhs))
+        self.lits += len(variables)
+        self.forget()
+        return "Ok(())"
+
     def refusal(self, lits):
         unknown = [abs(lit) - 1 for lit in lits if abs(lit) > self.vars]
         return f"Err(NoSuchVar {{ var: {unknown[0]} }})" if unknown else None
@@ -70,7 +81,9 @@ class Solver:
 
     def satisfies(self, values, assumptions):
         clauses = self.clauses + [[lit] for lit in assumptions]
-        return all(any(values[abs(lit) - 1] == (lit > 0) for lit in clause) for clause in clauses)
+        return all(
+            any(values[abs(lit) - 1] == (lit > 0) for lit in clause) for clause in clauses
+        ) and all(is_satisfied(values, *parity) for parity in self.parities)
 
     def is_satisfiable(self, assumptions):
         if self.pigeons:
@@ -92,6 +105,22 @@ class Solver:
         return all(lit in places for lit in failed) and not self.is_satisfiable(failed)
 
 
+def is_satisfied(values, variables, rhs):
+    """Whether an odd number of the variables, each as often as it stands, is true just if rhs."""
+    return (sum(values[variable - 1] for variable in variables) % 2 == 1) == rhs
+
+
+def is_right_count(match, answer):
+    variables, rhs, fixed = numbers(match[1]), match[2] == "true", numbers(match[3])
+    every = itertools.product([False, True], repeat=int(match[4]))
+    count = sum(
+        all(values[abs(lit) - 1] == (lit > 0) for lit in fixed)
+        and is_satisfied(values, variables, rhs)
+        for values in every
+    )
+    return int(answer) == count
+
+
 def numbers(text):
     return [int(number) for number in re.findall(r"-?\d+", text)]
 
@@ -103,6 +132,10 @@ def is_right(solver, line):
         return answer == solver.new_vars(numbers(call)[0])
     if call.startswith("add_clause of"):
         return answer == solver.add([1], numbers(call)[0])
+    if match := re.fullmatch(r"add_xor_clause (\[.*\]) (true|false)", call):
+        return answer == solver.add_parity(numbers(match[1]), match[2] == "true")
+    if match := COUNT.fullmatch(call):
+        return is_right_count(match, answer)
     if call.startswith("add_clause"):
         clause = numbers(call)
         return answer == solver.add(clause, len(clause))

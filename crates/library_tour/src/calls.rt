@@ -30,6 +30,27 @@ pub fn add_clause<R: Print + AllocGlobal>(
     Ok(())
 }
 
+/// Adds the parity of the variables of these numbers.
+pub fn add_xor_clause<R: Print + AllocGlobal>(
+    rt: &R,
+    solver: &mut SatSolver,
+    numbers: &[u32],
+    rhs: bool,
+) -> Result<(), TourError> {
+    let vars: Vec<Var> = numbers
+        .iter()
+        .map(|number| var(*number))
+        .collect(rt.alloc())?;
+    let answer = solver.add_xor_clause(&vars, rhs);
+    println!(rt; "add_xor_clause {numbers:?} {rhs}: {answer:?}")?;
+    Ok(())
+}
+
+/// The variable of a number that is not 0.
+pub fn var(number: u32) -> Var {
+    Var(number.saturating_sub(1))
+}
+
 /// Adds a clause that has the first variable so often.
 pub fn add_long_clause<R: Print + AllocGlobal>(
     rt: &R,
@@ -45,7 +66,7 @@ pub fn add_long_clause<R: Print + AllocGlobal>(
 /// The literal of a number that is not 0.
 pub fn lit(number: i32) -> Lit {
     Lit {
-        var: Var(number.unsigned_abs().saturating_sub(1)),
+        var: var(number.unsigned_abs()),
         negative: number < 0,
     }
 }

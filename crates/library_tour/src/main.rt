@@ -6,12 +6,15 @@
 
 mod calls;
 mod error;
+mod parities;
 mod pigeons;
 
 use calls::{
-    add_clause, add_long_clause, ask, ask_under, lit, new_vars, read, read_okay, set_max_confl,
+    add_clause, add_long_clause, add_xor_clause, ask, ask_under, lit, new_vars, read, read_okay,
+    set_max_confl,
 };
 use error::TourError;
+use parities::count_all;
 use pigeons::add_pigeons;
 use sat_api::{Answer, SatSolver};
 use sat_lits::Limits;
@@ -23,7 +26,8 @@ fn main(rt: HostRuntime) -> Result<(), TourError> {
     for topic in TOPICS {
         show(&rt, topic)?;
     }
-    Ok(())
+    println!(rt; "# Models of parities")?;
+    count_all(&rt)
 }
 
 /// What the tour shows.
@@ -33,6 +37,8 @@ enum Topic {
     OneModel,
     UnderAssumptions,
     AskedAgain,
+    Parities,
+    ParitiesAlone,
     MoreAfterAnswers,
     TheEmptyClause,
     RefusedVariables,
@@ -45,11 +51,13 @@ enum Topic {
 }
 
 /// The topics in order.
-const TOPICS: [Topic; 13] = [
+const TOPICS: [Topic; 15] = [
     Topic::FirstQuestion,
     Topic::OneModel,
     Topic::UnderAssumptions,
     Topic::AskedAgain,
+    Topic::Parities,
+    Topic::ParitiesAlone,
     Topic::MoreAfterAnswers,
     Topic::TheEmptyClause,
     Topic::RefusedVariables,
@@ -86,6 +94,8 @@ fn show_on<R: Print + AllocGlobal + Threads + Sync>(
         Topic::OneModel => one_model(rt, solver),
         Topic::UnderAssumptions => under_assumptions(rt, solver),
         Topic::AskedAgain => asked_again(rt, solver),
+        Topic::Parities => a_parity_more(rt, solver),
+        Topic::ParitiesAlone => parities_alone(rt, solver),
         Topic::MoreAfterAnswers => more_after_answers(rt, solver),
         Topic::TheEmptyClause => the_empty_clause(rt, solver),
         Topic::RefusedVariables => refused_variables(rt, solver),
@@ -186,7 +196,46 @@ fn asked_again<R: Print + AllocGlobal + Threads + Sync>(
     read(rt, solver)
 }
 
-/// A solver of at most two variables, and of three literals over all clauses.
+/// A parity that the only model of some clauses does not satisfy. One that is refused is not taken.
+fn a_parity_more<R: Print + AllocGlobal + Threads + Sync>(
+    rt: &R,
+    solver: &mut SatSolver,
+) -> Result<(), TourError> {
+    println!(rt; "# Parities")?;
+    new_vars(rt, solver, 2)?;
+    add_clause(rt, solver, &[1, 2])?;
+    add_clause(rt, solver, &[-1, 2])?;
+    add_clause(rt, solver, &[1, -2])?;
+    ask(rt, solver)?;
+    add_xor_clause(rt, solver, &[2, 3, 4], true)?;
+    read(rt, solver)?;
+    add_xor_clause(rt, solver, &[1, 2], true)?;
+    read(rt, solver)?;
+    ask(rt, solver)?;
+    read(rt, solver)?;
+    read_okay(rt, solver)
+}
+
+/// Three parities of which each two leave a model, and a variable that stands twice cancels.
+fn parities_alone<R: Print + AllocGlobal + Threads + Sync>(
+    rt: &R,
+    solver: &mut SatSolver,
+) -> Result<(), TourError> {
+    println!(rt; "# Parities alone")?;
+    new_vars(rt, solver, 3)?;
+    add_xor_clause(rt, solver, &[1, 2], true)?;
+    add_xor_clause(rt, solver, &[2, 3], true)?;
+    ask_under(rt, solver, &[1])?;
+    read(rt, solver)?;
+    add_xor_clause(rt, solver, &[1, 1], false)?;
+    ask_under(rt, solver, &[-1])?;
+    read(rt, solver)?;
+    add_xor_clause(rt, solver, &[1, 3], true)?;
+    ask(rt, solver)?;
+    read(rt, solver)
+}
+
+/// A solver of at most two variables, and of three literals over all clauses and parities.
 fn own_limits<R: Print + AllocGlobal + Threads + Sync>(
     rt: &R,
     solver: &mut SatSolver,
@@ -197,6 +246,7 @@ fn own_limits<R: Print + AllocGlobal + Threads + Sync>(
     add_clause(rt, solver, &[1, 2, 1, 2])?;
     add_clause(rt, solver, &[-1, -1, -1])?;
     add_clause(rt, solver, &[2])?;
+    add_xor_clause(rt, solver, &[2], false)?;
     ask_under(rt, solver, &[2])?;
     read(rt, solver)
 }

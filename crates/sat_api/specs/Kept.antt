@@ -1,9 +1,7 @@
 -- What the fields of a solver mean, and what they keep.
-use Rattle.std.specs.Prelude.{◌≡◌, true, false, []}
-use Rattle.std.specs.List.{list_all}
+use Rattle.std.specs.Prelude.{◌≡◌, false, []}
 use Rattle.sat_lits.specs.Formulas.{Extends}
 use Rattle.sat_lits.specs.Meaning.{Follows}
-use Rattle.one_solver.specs.Basic.{is_clause}
 use Rattle.one_solver.specs.Parts.{problem_in}
 use Rattle.sat_api.specs.State.{SolverState, IsBacked}
 use Rattle.sat_api.specs.declared.solver.SatSolver.TheInside.{Inside}
@@ -19,9 +17,8 @@ state_of s = record {
   okay = s.okay;
 }
 
--- what is left to be read is right, the solver took a front of the formula, the items are clauses, and where it is not okay they contradict each other
+-- what is left to be read is right, the solver took a front of the formula, and where it is not okay the items contradict each other
 pub record IsKept (s : Inside) : Type 0 where
   pub backed : IsBacked (state_of s)
   pub front : Extends (problem_in s.solver) s.formula.problem
-  pub clauses : list_all is_clause s.formula.problem.items ≡ true
   pub refuted : s.okay ≡ false → Follows s.formula.problem []

@@ -1,8 +1,6 @@
 ghost use Rattle.std.specs.Prelude.{◌<◌, ◌^◌, length, IfOk, IsTrue};
-ghost use Rattle.std.specs.List.{list_all};
 ghost use Rattle.sat_lits.specs.Formulas.{Extends, names_known};
 ghost use Rattle.sat_lits.specs.declared.formula.Item.TheVariants.{Clause};
-ghost use Rattle.one_solver.specs.Basic.{is_clause};
 ghost use Rattle.one_solver.specs.Parts.{problem_in};
 ghost use Rattle.sat_api.specs.Decisions.{IsFound};
 
@@ -20,8 +18,8 @@ pub enum Finding {
 }
 
 /// Brings a solver up to a formula that begins with what it took, and lets it search interval by
-/// interval under assumptions, whose variables are there, until it has a verdict or made as many conflicts as the limit allows. The only error
-/// is want of memory.
+/// interval under assumptions, whose variables are there, until it has a verdict or made as many
+/// conflicts as the limit allows. The only error is want of memory.
 pub fn decide(
     solver: &mut OneSolver,
     formula: &Formula,
@@ -29,7 +27,6 @@ pub fn decide(
     limit: Option<u64>,
 ) -> Result<Finding, NoMemory>
     requires front { Extends (problem_in solver.old) formula.now.problem }
-    requires clauses { IsTrue (list_all is_clause formula.now.problem.items) }
     requires few { length assumptions.now < 2 ^ 32 }
     requires known { IsTrue (names_known formula.now.problem.vars (Clause assumptions.now)) }
     ensures found { IfOk result (IsFound formula.now.problem assumptions.now limit solver.new.conflicts) }

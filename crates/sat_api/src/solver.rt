@@ -1,6 +1,6 @@
 ghost use Rattle.std.specs.Prelude.{◌≡◌, ◌≢◌, ◌+◌, ◌<◌, ◌≤◌, ◌^◌, ◌↔◌, ◌⊎◌, ℕ, [], false, Some, None, Err, length, IfOk, IfErr, IfSome, OnOk, OnErr, IsTrue};
 ghost use Rattle.std.specs.Option.{option_copied};
-ghost use Rattle.sat_lits.specs.declared.formula.Item.TheVariants.{Clause};
+ghost use Rattle.sat_lits.specs.declared.formula.Item.TheVariants.{Clause, Parity};
 ghost use Rattle.sat_lits.specs.Limits.{standard_limits};
 ghost use Rattle.sat_lits.specs.Meaning.{IsModel, Follows};
 ghost use Rattle.sat_lits.specs.Formulas.{with_vars, with_item, first_unknown, numbers_of, names_known, lit_count};
@@ -11,7 +11,7 @@ use crate::decide::{Finding, decide};
 use crate::error::ApiError;
 use analyze::Tally;
 use one_solver::OneSolver;
-use sat_lits::{Formula, Limits, List, Lit, NoMemory, Verdict};
+use sat_lits::{Formula, Limits, List, Lit, NoMemory, Var, Verdict};
 use sat_ports::Alarm;
 use std::alloc::Global;
 use std::marker::Model;
@@ -36,7 +36,8 @@ pub enum Answer {
     Unknown(Cause),
 }
 
-/// A solver: variables and clauses over them, within limits, and what the latest call answered.
+/// A solver: variables, clauses and parities over them, within limits, and what the latest call
+/// answered.
 ///
 /// A call that is refused changes nothing, except that a `solve` which runs out of memory drops
 /// the earlier answer.
@@ -122,6 +123,27 @@ impl SatSolver {
         ensures err { OnErr result (self.new ≡ self.old) }
     {
         self.formula.push_clause(lits)?;
+        self.model = None;
+        self.conflict = None;
+        Ok(())
+    }
+
+    /// Appends a parity as given, with repeats: the number of true variables, each counted as often
+    /// as it stands, is odd exactly if `rhs`.
+    ///
+    /// The refusals are those of a clause, where each variable counts as one literal.
+    pub fn add_xor_clause(&mut self, vars: &[Var], rhs: bool) -> Result<(), ApiError>
+        ensures ok { OnOk result (self.new ≡ with_problem (with_item (Parity vars.now rhs) self.old.problem) self.old) }
+
+        ensures no_such_var { (n : ℕ) → (result ≡ Err (ApiError.NoSuchVar n))
+            ↔ (first_unknown self.old.problem.vars (numbers_of (Parity vars.now rhs)) ≡ Some n) }
+        ensures too_many_lits { (result ≡ Err ApiError.TooManyLits)
+            ↔ ((first_unknown self.old.problem.vars (numbers_of (Parity vars.now rhs)) ≡ None)
+            × (self.old.limits.lits < lit_count self.old.problem.items + length vars.now)) }
+        ensures no_other { result ≢ Err ApiError.TooManyVars }
+        ensures err { OnErr result (self.new ≡ self.old) }
+    {
+        self.formula.push_parity(vars, rhs)?;
         self.model = None;
         self.conflict = None;
         Ok(())

@@ -1,10 +1,8 @@
-use Rattle.std.proofs.Common.{◌≡◌, ◌∙◌, true, [], Bool, List, Option, Some, None, refl, sym, ap, subst}
-use Rattle.std.specs.List.{list_all}
+use Rattle.std.proofs.Common.{◌≡◌, [], Bool, List, Some, None, refl, sym, subst}
 use Rattle.sat_lits.specs.Formulas.{Extends, with_vars}
 use Rattle.sat_lits.specs.FollowLaws.{Follows_more, Extends_through, with_vars-Extends}
 use Rattle.sat_lits.specs.Meaning.{Problem, Follows}
 use Rattle.sat_lits.specs.declared.literal.Lit.{Lit}
-use Rattle.one_solver.specs.Basic.{is_clause}
 use Rattle.one_solver.specs.Parts.{problem_in}
 use Rattle.sat_api.proofs.solver.SatSolver.new_vars.Goals as goal
 
@@ -20,6 +18,5 @@ invariant_of-self-2 c =
     record {
       backed = record { model = λ values e. absurd (no_model values e); conflict = λ lits e. absurd (no_conflict lits e) };
       front = subst (λ (x : Problem). Extends (problem_in c.self.inside.solver) x) (sym c.in_ok-grow.ensures.ok) (Extends_through (problem_in c.self.inside.solver) f (with_vars c.args.by f) c.self.invariant.front (with_vars-Extends c.args.by f));
-      clauses = ap (λ (x : Problem). list_all is_clause x.items) c.in_ok-grow.ensures.ok ∙ c.self.invariant.clauses;
       refuted = λ e. subst (λ (x : Problem). Follows x []) (sym c.in_ok-grow.ensures.ok) (Follows_more f (with_vars c.args.by f) [] c.vars-vars.ensures.within.known (with_vars-Extends c.args.by f) refl (c.self.invariant.refuted e));
     }
