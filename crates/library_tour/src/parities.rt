@@ -15,6 +15,7 @@ pub fn count_all<R: Print + AllocGlobal + Threads + Sync>(rt: &R) -> Result<(), 
     show_count(rt, 1, &[], &[], false)?;
     show_count(rt, 1, &[], &[], true)?;
     show_count(rt, 1, &[], &[1], true)?;
+    show_count(rt, 1, &[], &[1, 1], true)?;
     show_count(rt, 2, &[], &[1, 2], false)?;
     show_count(rt, 3, &[], &[1, 1, 2], true)?;
     show_count(rt, 3, &[], &[3, 1, 3, 3], false)?;
@@ -70,7 +71,7 @@ fn take<R: AllocGlobal + Threads + Sync>(
 }
 
 /// How many assignments of so many variables are models, found by a question under each.
-fn count_models<R: AllocGlobal + Threads + Sync>(
+fn count_models<R: Threads + Sync>(
     rt: &R,
     solver: &mut SatSolver,
     vars: u32,
@@ -87,7 +88,7 @@ fn count_models<R: AllocGlobal + Threads + Sync>(
 }
 
 /// Whether the assignment whose values are the bits of a number is a model.
-fn is_model<R: AllocGlobal + Threads + Sync>(
+fn is_model<R: Threads + Sync>(
     rt: &R,
     solver: &mut SatSolver,
     vars: u32,
@@ -95,12 +96,13 @@ fn is_model<R: AllocGlobal + Threads + Sync>(
 ) -> Result<bool, TourError>
     requires { vars ≤ 9 }
 {
-    let lits: Vec<Lit> = (0..vars)
-        .map(|place| Lit {
+    let mut lits = [lit(1); 9];
+    for place in 0..9_u32 {
+        lits[place as usize] = Lit {
             var: Var(place),
             negative: choice.wrapping_shr(place) % 2 == 0,
-        })
-        .collect(rt.alloc())?;
-    let answer = solver.solve(rt, &lits, &mut Silent::new())?;
+        };
+    }
+    let answer = solver.solve(rt, &lits[..vars as usize], &mut Silent::new())?;
     Ok(matches!(answer, Answer::Sat))
 }

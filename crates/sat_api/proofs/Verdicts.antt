@@ -1,9 +1,8 @@
 -- The clause of negated literals.
 use Rattle.std.proofs.Common.{◌≡◌, ℕ, Bool, true, false, not, ◌||◌, ◌&&◌, List, [], ◌∷◌, Option, Some, cond, rules, map, refl, sym, ap, subst, ◌∙◌}
 use Rattle.std.proofs.lemmas.Bool.{or_left, or_right, true≢false}
-use Rattle.sat_lits.specs.Truth.{signed}
 use Rattle.sat_lits.specs.ClauseLaws.{signed_not}
-use Rattle.sat_lits.specs.Meaning.{Problem, IsModel, Follows, satisfies_clause, is_true, value_of, negated}
+use Rattle.sat_lits.specs.Meaning.{Problem, Follows, satisfies_clause, is_true, value_of, negated}
 use Rattle.sat_lits.specs.Verdicts.{makes_true, IsFailed, IsRight}
 use Rattle.sat_lits.specs.declared.verdict.Verdict.{Verdict}
 use Rattle.sat_lits.specs.declared.verdict.Verdict.TheVariants.{Unsat}

@@ -1,13 +1,13 @@
-use Rattle.std.proofs.Common.{◌≡◌, Bool, true, false, not, [], List, Option, Some, None, map, sym, subst, ap, ◌∙◌}
+use Rattle.std.proofs.Common.{◌≡◌, Bool, not, List, Option, Some, None, sym, subst, ap, ◌∙◌}
 use Rattle.std.proofs.lemmas.Bool.{not-false}
-use Rattle.sat_lits.specs.Meaning.{Problem, Follows, negated}
+use Rattle.sat_lits.specs.Meaning.{Problem, Follows}
 use Rattle.sat_lits.specs.Formulas.{Extends}
 use Rattle.sat_lits.specs.Verdicts.{IsFailed}
 use Rattle.sat_lits.specs.declared.literal.Lit.{Lit}
 use Rattle.one_solver.specs.Parts.{Parts, problem_in}
 use Rattle.sat_api.specs.State.{SolverState}
 use Rattle.sat_api.specs.Answers.{HasModelUnder, is_refutation}
-use Rattle.sat_api.proofs.Verdicts.{negated_follow, found_failed, none_under, empty_failed, empty_follows, okay_kept}
+use Rattle.sat_api.proofs.Verdicts.{negated_follow, found_failed, none_under, empty_follows}
 use Rattle.sat_api.proofs.solver.SatSolver.ask.Goals as goal
 
 some_same : (a b : List Lit) → Some a ≡ Some b → a ≡ b
@@ -25,7 +25,6 @@ invariant_of-self-in-Verdict-Unsat c =
             subst (λ (ls : List Lit). Follows f ls) (sym c.negate.ensures ∙ same) (negated_follow f c.args.assumptions.now c.in-Verdict-Unsat.failed failed);
       };
       front = subst (λ (s : Parts). Extends (problem_in s) f) (sym c.pour.ensures.emptied) c.decide-found.ensures.front;
-      clauses = c.self.invariant.clauses;
       refuted = λ e. empty_follows f c.negate.new.self (not-false _ (ap not (ap (λ (ls : List Lit). is_refutation (Some ls)) (sym c.as_slice.ensures) ∙ sym c.is_empty_clause.ensures) ∙ e)) (subst (λ (ls : List Lit). Follows f ls) (sym c.negate.ensures) (negated_follow f c.args.assumptions.now c.in-Verdict-Unsat.failed failed));
     }
 

@@ -1,4 +1,4 @@
-use Rattle.std.proofs.Common.{◌≡◌, ◌∙◌, ℕ, true, None, sym, ap, subst}
+use Rattle.std.proofs.Common.{◌≡◌, ◌∙◌, ℕ, true, sym, ap, subst}
 use Rattle.sat_lits.specs.Formulas.{names_known, numbers_of, first_unknown}
 use Rattle.sat_lits.specs.Laws.{known_where_none}
 use Rattle.sat_lits.specs.declared.formula.Item.TheVariants.{Clause}
