@@ -1,4 +1,4 @@
-ghost use Rattle.std.specs.Prelude.{◌≡◌, ◌<◌, ◌≤◌, ◌∷◌, ◌++◌, [], IfOk, OnErr, IsTrue};
+ghost use Rattle.std.specs.Prelude.{◌≡◌, ◌<◌, ◌≤◌, ◌+◌, ◌∷◌, ◌++◌, [], length, sum_by, IfOk, OnErr, IsTrue};
 ghost use Rattle.sat_lits.specs.InLits.{is_distinct};
 ghost use Rattle.clause_store.specs.Store.{IsKept, held_as, is_live, without, contents, hard_of, learned_of};
 ghost use Rattle.indexed_store.specs.Occurrences.{clauses_at, occurrences};
@@ -107,13 +107,14 @@ impl IndexedStore {
         }
     }
 
-    /// Gives every clause its id anew and frees the places of dropped ones. The clauses stay, in
-    /// order. An earlier id may be given again, to another clause too, so no caller may keep one.
+    /// Gives every clause its id anew and frees the places of dropped ones, so that only as many are
+    /// left as the clauses and their literals take. The clauses stay, in order. An earlier id may be given again, to another clause too, so no caller may keep one.
     /// It takes no memory: the lists are made anew where they stand.
     pub fn compact(&mut self)
         ensures clauses { contents self.new.held ≡ contents self.old.held }
         ensures hard { hard_of self.new.held ≡ hard_of self.old.held }
         ensures learned { learned_of self.new.held ≡ learned_of self.old.held }
+        ensures given { self.new.given ≡ sum_by (λ clause. length clause.lits + 1) self.old.held }
     {
         self.store.compact();
         clear_each(&mut self.lists);

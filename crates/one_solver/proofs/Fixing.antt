@@ -26,7 +26,7 @@ use Rattle.state_laws.specs.Resolution.{mentions}
 use Rattle.state_laws.specs.Moves.{put_through, put_into}
 use Rattle.state_laws.specs.Conditions.{EntryFollows, IsContradicted}
 use Rattle.state_laws.specs.Held.{own_of, own_clause, own_clauses}
-use Rattle.state_laws.specs.Kernel.{Kernel, state_of, Standing}
+use Rattle.state_laws.specs.Kernel.{Kernel, state_of, Standing, TookSame}
 use Rattle.state_laws.specs.PlaceLaws.{active_in}
 use Rattle.state_laws.specs.ViewLaws.{both_lists}
 use Rattle.state_laws.specs.RootTableLaws.{entry_of, entry_of-some, entry_of-push}
@@ -35,7 +35,7 @@ use Rattle.private_state.proofs.Moving.{active_unnamed}
 use Rattle.one_solver.specs.Basic.{IsBasic}
 use Rattle.one_solver.specs.Fixing.{IsHeldOrFixed, IsFixing}
 use Rattle.one_solver.specs.Learned.{HasForgotten}
-use Rattle.one_solver.specs.Units.{is_short, is_empty, is_unit, HasNoUnits, IsFixed, FixesUnits, TookSame}
+use Rattle.one_solver.specs.Units.{is_short, is_empty, is_unit, HasNoUnits, IsFixed, FixesUnits}
 
 -- a clause of one literal is that literal
 pub unit_is : (l : InLit) (c : List InLit) → is_unit (same_in l) c ≡ true → c ≡ l ∷ []

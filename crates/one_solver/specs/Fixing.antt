@@ -7,12 +7,12 @@ use Rattle.sat_lits.specs.declared.literal.OwnLit.{OwnLit}
 use Rattle.sat_lits.specs.declared.literal.ClauseId.{ClauseId}
 use Rattle.clause_store.specs.Store.{Store}
 use Rattle.rebuild_stack.specs.PutIn.{same_lit}
-use Rattle.state_laws.specs.Kernel.{Kernel, state_of}
+use Rattle.state_laws.specs.Kernel.{Kernel, state_of, TookSame}
 use Rattle.one_solver.specs.Basic.{IsBasic}
 use Rattle.one_solver.specs.Learned.{NotesLong}
 use Rattle.one_solver.specs.declared.units.Short.{Short}
 use Rattle.one_solver.specs.declared.units.Short.TheVariants.{Empty, Single, End}
-use Rattle.one_solver.specs.Units.{is_empty, is_unit, IsFixed, TookSame}
+use Rattle.one_solver.specs.Units.{is_empty, is_unit, IsFixed}
 
 -- the clause of one literal is still held, or the literal is fixed, or a hard clause has no literal
 abbrev pub IsHeldOrFixed : Kernel → OwnLit → Type 0

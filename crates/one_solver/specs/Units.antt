@@ -65,10 +65,3 @@ IsFixed k l = fixed_value (entry_of l.var.0 k.stack) ≡ Some (not l.negative)
 -- the literal of each hard clause of one literal was fixed
 abbrev pub FixesUnits : Kernel → Kernel → Type 0
 FixesUnits old new = (l : OwnLit) → list_any (is_unit (same_lit l)) (state_of old).hard ≡ true → IsFixed new l
-
--- what was taken is the same, and a refuted state stays so
-pub record TookSame (old new : Kernel) : Type 0 where
-  pub items : new.items ≡ old.items
-  pub entries : new.entries ≡ old.entries
-  pub definitions : new.definitions ≡ old.definitions
-  pub okay : new.okay ≡ true → old.okay ≡ true

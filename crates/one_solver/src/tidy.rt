@@ -1,9 +1,9 @@
 ghost use Rattle.std.specs.Prelude.{◌≡◌, None, map, filter, IfOk, OnOk, IsTrue};
 ghost use Rattle.clause_store.specs.Store.{IsKept, contents, is_live};
-ghost use Rattle.state_laws.specs.Kernel.{state_of};
+ghost use Rattle.state_laws.specs.Kernel.{state_of, TookSame};
 ghost use Rattle.one_solver.specs.Basic.{IsBasic};
 ghost use Rattle.one_solver.specs.Learned.{is_long, HasFewLong, NotesLong};
-ghost use Rattle.one_solver.specs.Units.{HasNoUnits, TookSame};
+ghost use Rattle.one_solver.specs.Units.{HasNoUnits};
 
 use crate::learned::{drop_old, long_learned};
 use crate::units::fix_each;

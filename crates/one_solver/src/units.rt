@@ -3,7 +3,8 @@ ghost use Rattle.clause_store.specs.Store.{IsKept, Held, clause_at, is_live};
 ghost use Rattle.one_solver.specs.Basic.{IsBasic};
 ghost use Rattle.one_solver.specs.Learned.{numbers_in, NotesLong};
 ghost use Rattle.one_solver.specs.Fixing.{NotesTo};
-ghost use Rattle.one_solver.specs.Units.{IsLength, FindsShort, HasNoUnits, FixesUnits, TookSame};
+ghost use Rattle.state_laws.specs.Kernel.{TookSame};
+ghost use Rattle.one_solver.specs.Units.{IsLength, FindsShort, HasNoUnits, FixesUnits};
 
 use crate::learned::note_long;
 use clause_store::ClauseStore;

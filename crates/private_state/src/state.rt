@@ -1,4 +1,4 @@
-ghost use Rattle.std.specs.Prelude.{◌≡◌, ◌+◌, ◌-◌, ◌≤◌, ◌^◌, Some, length, true, false, IsTrue, IfOk, OnOk, OnErr};
+ghost use Rattle.std.specs.Prelude.{◌≡◌, ◌+◌, ◌-◌, ◌≤◌, ◌^◌, Some, length, sum_by, true, false, IsTrue, IfOk, OnOk, OnErr};
 ghost use Rattle.std.specs.List.{list_any};
 ghost use Rattle.sat_lits.specs.Truth.{clauses_value};
 ghost use Rattle.sat_lits.specs.Meaning.{IsModel};
@@ -324,13 +324,14 @@ impl PrivateState {
         Ok(())
     }
 
-    /// Gives every clause its id anew and frees the places of dropped ones. The clauses stay, in
-    /// order. An earlier id may be given again, to another clause too, so no caller may keep one.
+    /// Gives every clause its id anew and frees the places of dropped ones, so that only as many are
+    /// left as the clauses and their literals take. The clauses stay, in order. An earlier id may be given again, to another clause too, so no caller may keep one.
     /// It takes no memory.
     pub fn compact(&mut self)
         ensures same { self.new ≡ record self.old { store = self.new.store } }
         ensures clauses { contents self.new.store.held ≡ contents self.old.store.held }
         ensures state { state_of self.new ≡ state_of self.old }
+        ensures given { self.new.store.given ≡ sum_by (λ clause. length clause.lits + 1) self.old.store.held }
     {
         self.store.compact();
     }

@@ -82,3 +82,10 @@ pub record IsImplied (k : Kernel) (id : ℕ) : Type 0 where
   pub hard : option_map (λ h. h.learned) (clause_at k.store.held id) ≡ Some false
   pub follows : (w : ℕ → Bool) → clauses_value (own_value w) (own_clauses k.maps (hard_of (without id k.store.held))) ≡ true
       → clauses_value (own_value w) (own_clauses k.maps (hard_of k.store.held)) ≡ true
+
+-- what was taken is the same, and a refuted state stays so
+pub record TookSame (old new : Kernel) : Type 0 where
+  pub items : new.items ≡ old.items
+  pub entries : new.entries ≡ old.entries
+  pub definitions : new.definitions ≡ old.definitions
+  pub okay : new.okay ≡ true → old.okay ≡ true
