@@ -1,5 +1,5 @@
 -- What contracts see of the forms in memory.
-use Rattle.std.specs.Prelude.{ℕ, ◌==◌, ◌-◌, Bool, ◌||◌, ◌&&◌, List, ◌++◌, length, take, drop, min, nat_lt, refl}
+use Rattle.std.specs.Prelude.{ℕ, ◌==◌, ◌-◌, Bool, ◌||◌, ◌&&◌, if◌then◌else◌, List, ◌++◌, length, take, drop, min, nat_lt, refl}
 use Rattle.std.specs.List.{list_any}
 use Rattle.std.specs.Coded.{Coded, code_by, coded×, coded_ℕ}
 use Rattle.sat_ports.specs.Causes.{one_more}
@@ -55,3 +55,13 @@ pub record Counted (T : Type 0) : Type 0 where
 
 abbrev pub counted_code : {T : Type 0} → Coded T → Coded (Counted T)
 counted_code {T} code = code_by (T × ℕ) (coded× code coded_ℕ) (λ c. (c.inner, c.faults)) (λ p. record { inner = p.0; faults = p.1 }) (λ _. refl)
+
+-- an alarm that asks at the polls with these numbers
+pub record Polled : Type 0 where
+  pub polls : List ℕ
+  pub calls : ℕ
+  pub raises : ℕ
+
+-- after a poll that asked for a stop or did not: the call is counted, and so is a raise
+abbrev pub after_poll : Bool → Polled → Polled
+after_poll asked a = record a { calls = one_more a.calls; raises = if asked then one_more a.raises else a.raises }

@@ -5,7 +5,9 @@
 //! one has raised that number. So code that is generic over a trait cannot make up a failure.
 #![tactic(auto)]
 
+mod alarms;
 mod failure;
+mod gate;
 mod memory;
 mod standard;
 
@@ -16,8 +18,10 @@ ghost use Rattle.std.specs.Io.KnownBytes.{ReadConsumes};
 ghost use Rattle.sat_ports.specs.Causes.{Rose, HasCause};
 ghost use Rattle.sat_ports.specs.Writes.{Advances, WritesFront};
 
+pub use alarms::{AtPolls, Flag, Silent, interrupt_asap};
 pub use failure::Failed;
-pub use memory::{BytesSink, BytesSource, PlainSource, Silent};
+pub use gate::{Gate, OpenGate};
+pub use memory::{BytesSink, BytesSource, NullSink, PlainSource};
 pub use standard::{StdSink, StdSource};
 
 /// Where bytes come from.

@@ -1,4 +1,4 @@
-ghost use Rattle.std.specs.Prelude.{◌≡◌, ◌<◌, ◌≤◌, ◌↔◌, ℕ, List, [], Some, IfOk, OnOk, OnErr, IsErr, IsTrue, IsFalse, length, drop, take, min, true, false};
+ghost use Rattle.std.specs.Prelude.{◌≡◌, ◌<◌, ◌≤◌, ◌↔◌, ℕ, List, [], Some, None, Ok, IfOk, OnOk, OnErr, IsErr, IsTrue, IsFalse, length, drop, take, min, true, false};
 ghost use Rattle.std.specs.Io.{ReadsAtMost};
 ghost use Rattle.std.specs.Io.KnownBytes.{ReadConsumes};
 ghost use Rattle.sat_ports.specs.Causes.{Rose, HasCause};
@@ -6,7 +6,7 @@ ghost use Rattle.sat_ports.specs.Writes.{Advances, WritesFront};
 ghost use Rattle.sat_ports.specs.Forms.{Pieces, Shelf, is_listed, is_refused, fitting, after_read, after_failed_read, after_write, after_failed_write};
 
 use crate::failure::count_failure;
-use crate::{Alarm, Failed, Sink, Source};
+use crate::{Failed, Sink, Source};
 use sat_lits::NoMemory;
 use std::alloc::Global;
 use std::marker::Model;
@@ -198,27 +198,28 @@ impl Sink for BytesSink {
     }
 }
 
-/// Never asks for a stop.
+/// Takes all that is written, and keeps nothing.
 #[derive(Clone, Copy, Debug)]
-pub struct Silent;
+pub struct NullSink;
 
-impl Silent {
-    pub fn new() -> Silent {
-        Silent
+impl NullSink {
+    pub fn new() -> NullSink {
+        NullSink
     }
 }
 
-impl Alarm for Silent {
-    ghost raises = { λ _. 0 };
+impl Sink for NullSink {
+    ghost written = { λ _. None };
 
-    ghost kept = { λ _ _. Unit {0} };
+    ghost faults = { λ _. 0 };
 
-    ghost kept_by_none = { λ _. tt };
-
-    ghost kept_by_both = { λ _ _ _ _ _. tt };
-
-    fn poll(&mut self) -> bool {
-        false
+    fn write(&mut self, piece: &[u8]) -> Result<usize, Failed>
+        ensures advances { IfOk result (Advances piece.now) }
+        ensures bytes { WritesFront None None result piece.now }
+        ensures cause { HasCause 0 0 result }
+        ensures whole { result ≡ Ok (length piece.now) }
+    {
+        Ok(piece.len())
     }
 }
 
@@ -264,10 +265,5 @@ mod tests {
         assert_eq!(rt; sink.write(b"a"), Ok(1));
         assert_eq!(rt; sink.bytes(), b"a".as_slice());
         Ok(())
-    }
-
-    #[test]
-    fn silence_never_asks(rt: HostRuntime) {
-        assert!(rt; !Silent::new().poll());
     }
 }
