@@ -1,5 +1,5 @@
 -- What contracts see of a solver.
-use Rattle.std.specs.Prelude.{◌≡◌, ℕ, ◌≤◌, Bool, true, List, None}
+use Rattle.std.specs.Prelude.{◌≡◌, ℕ, ◌+◌, ◌≤◌, Bool, true, List, None}
 use Rattle.std.specs.declared.option.Option.{Option}
 use Rattle.std.specs.Option.{ForSome}
 use Rattle.sat_lits.specs.Limits.{LimitNumbers}
@@ -37,12 +37,13 @@ unanswered s = record s { model = None; conflict = None }
 abbrev pub with_problem : Problem → SolverState → SolverState
 with_problem f s = record s { problem = f; model = None; conflict = None }
 
--- the formula and the limits are as before, and no conflict that was counted is forgotten
+-- the formula and the limits are as before, no conflict that was counted is forgotten, and no more are counted than the conflict limit allows
 pub record Keeps (old new : SolverState) : Type 0 where
   pub problem : new.problem ≡ old.problem
   pub limits : new.limits ≡ old.limits
   pub max_conflicts : new.max_conflicts ≡ old.max_conflicts
   pub counted : old.counted ≤ new.counted
+  pub limited : ForSome old.max_conflicts (λ most. new.counted ≤ old.counted + most)
 
 -- the model satisfies the formula, and the conflict is a clause that follows from it
 pub record IsBacked (state : SolverState) : Type 0 where

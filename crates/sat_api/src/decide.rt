@@ -1,4 +1,4 @@
-ghost use Rattle.std.specs.Prelude.{◌<◌, ◌^◌, length, IfOk, IsTrue};
+ghost use Rattle.std.specs.Prelude.{◌≡◌, ◌<◌, ◌≤◌, ◌^◌, length, IfOk, IfSome, IsTrue};
 ghost use Rattle.sat_lits.specs.Formulas.{Extends, names_known};
 ghost use Rattle.sat_lits.specs.declared.formula.Item.TheVariants.{Clause};
 ghost use Rattle.one_solver.specs.Parts.{problem_in};
@@ -19,7 +19,8 @@ pub enum Finding {
 
 /// Brings a solver up to a formula that begins with what it took, and lets it search interval by
 /// interval under assumptions, whose variables are there, until it has a verdict or made as many
-/// conflicts as the limit allows. The only error is want of memory.
+/// conflicts as the limit allows. It never makes more, also where it errs, and the only error is
+/// want of memory. The solver made no conflict that was not counted elsewhere.
 pub fn decide(
     solver: &mut OneSolver,
     formula: &Formula,
@@ -27,9 +28,11 @@ pub fn decide(
     limit: Option<u64>,
 ) -> Result<Finding, NoMemory>
     requires front { Extends (problem_in solver.old) formula.now.problem }
+    requires unused { solver.old.conflicts ≡ 0 }
     requires few { length assumptions.now < 2 ^ 32 }
     requires known { IsTrue (names_known formula.now.problem.vars (Clause assumptions.now)) }
     ensures found { IfOk result (IsFound formula.now.problem assumptions.now limit solver.new.conflicts) }
+    ensures within { IfSome limit (λ most. solver.new.conflicts ≤ most) }
     ensures front { Extends (problem_in solver.new) formula.now.problem }
 {
     solver.absorb(formula)?;

@@ -165,7 +165,8 @@ impl SatSolver {
     /// `Unsat` the conflict. `Unknown` comes only where a conflict limit is set, `conflicts` rose in
     /// this call by at least the limit, and the limit is less than the number of conflicts that is
     /// enough to decide the formula. `Memory` is the only other error: then the items stand, and
-    /// neither model nor conflict is there. No thread is started, and the alarm is not asked.
+    /// neither model nor conflict is there. Where a conflict limit is set, `conflicts` never rises by
+    /// more than the limit, whatever the answer. No thread is started, and the alarm is not asked.
     pub fn solve<R: Threads + Sync, A: Alarm + Send>(
         &mut self,
         rt: &R,
