@@ -9,8 +9,8 @@ use Rattle.rebuild_stack.specs.declared.entry.Entry.{Entry}
 use Rattle.rebuild_stack.specs.declared.entry.Entry.TheVariants.{Fix, Equal, Gone}
 use Rattle.rebuild_stack.specs.declared.entry.Root.TheVariants.{Known, Last}
 use Rattle.state_laws.specs.RootTableLaws.{entry_of, root_without_entry, root_fixed, root_gone}
-use Rattle.private_state.specs.Removed.{fixed_value}
-use Rattle.private_state.specs.Statuses.{status_of, IsEnd}
+use Rattle.removed_vars.specs.Removed.{fixed_value}
+use Rattle.removed_vars.specs.Statuses.{status_of, IsEnd}
 
 signed_not : (n x : Bool) → not (beq x n) ≡ signed n x
 signed_not true true = refl

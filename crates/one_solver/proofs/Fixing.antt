@@ -30,8 +30,8 @@ use Rattle.state_laws.specs.Kernel.{Kernel, state_of, Standing, TookSame}
 use Rattle.state_laws.specs.PlaceLaws.{active_in}
 use Rattle.state_laws.specs.ViewLaws.{both_lists}
 use Rattle.state_laws.specs.RootTableLaws.{entry_of, entry_of-some, entry_of-push}
-use Rattle.private_state.specs.Removed.{fixed_value}
-use Rattle.private_state.proofs.Moving.{active_unnamed}
+use Rattle.removed_vars.specs.Removed.{fixed_value}
+use Rattle.private_state.specs.MovingLaws.{active_unnamed}
 use Rattle.one_solver.specs.Basic.{IsBasic}
 use Rattle.one_solver.specs.Fixing.{IsHeldOrFixed, IsFixing}
 use Rattle.one_solver.specs.Learned.{HasForgotten}

@@ -28,10 +28,10 @@ use Rattle.state_laws.specs.ExtendLaws.{outers_from-append}
 use Rattle.state_laws.specs.Moves.{grown}
 use Rattle.state_laws.specs.Kernel.{Kernel, state_of}
 use Rattle.private_state.specs.Taking.{IsTakable, item_taken}
-use Rattle.private_state.specs.Parities.{var_root, parity_pieces, definitions_of}
-use Rattle.private_state.proofs.Collecting.{taken_at}
-use Rattle.private_state.proofs.ParityRoots.{few_cuts}
-use Rattle.private_state.proofs.KernelParity.{parity_definitions}
+use Rattle.parity_forms.specs.Parities.{var_root, parity_pieces, definitions_of}
+use Rattle.removed_vars.specs.CollectLaws.{taken_at}
+use Rattle.parity_forms.specs.ParityRootLaws.{few_cuts}
+use Rattle.parity_forms.specs.KernelParityLaws.{parity_definitions}
 use Rattle.one_solver.specs.Basic.{IsBasic}
 use Rattle.one_solver.specs.Taken.{HasTaken, with_items}
 

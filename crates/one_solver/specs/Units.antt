@@ -9,7 +9,7 @@ use Rattle.rebuild_stack.specs.PutIn.{same_lit}
 use Rattle.clause_store.specs.Store.{Store, Held, IsKept, clause_at, before}
 use Rattle.state_laws.specs.RootTableLaws.{entry_of}
 use Rattle.state_laws.specs.Kernel.{Kernel, state_of}
-use Rattle.private_state.specs.Removed.{fixed_value}
+use Rattle.removed_vars.specs.Removed.{fixed_value}
 use Rattle.one_solver.specs.declared.units.Length.{Length}
 use Rattle.one_solver.specs.declared.units.Length.TheVariants as lengths
 use Rattle.one_solver.specs.declared.units.Short.{Short}

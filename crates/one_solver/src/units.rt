@@ -8,7 +8,8 @@ ghost use Rattle.one_solver.specs.Units.{IsLength, FindsShort, HasNoUnits, Fixes
 
 use crate::learned::note_long;
 use clause_store::ClauseStore;
-use private_state::{PrivateState, own_lit};
+use private_state::PrivateState;
+use removed_vars::own_lit;
 use sat_lits::{ClauseId, InLit, NoMemory};
 
 /// How many literals a clause has, as far as it matters here.

@@ -1,14 +1,2 @@
-pub mod PuttingIn
-pub mod Collecting
-pub mod Following
-pub mod Moving
 pub mod Rows
-pub mod ParityForms
-pub mod OddNumbers
-pub mod ParityRoots
-pub mod PieceWalks
-pub mod PieceChain
-pub mod KernelMade
-pub mod StoredForms
-pub mod KernelParity
-pub mod Defining
+pub mod Reading

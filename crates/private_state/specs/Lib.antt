@@ -1,12 +1,4 @@
-pub mod Signs
-pub mod Fresh
-pub mod Removed
-pub mod Statuses
-pub mod RemovedKept
-pub mod Parities
-pub mod Marks
-pub mod InMaps
-pub mod MadeOf
 pub mod Taking
 pub mod Kept
 pub mod Rebuilt
+pub mod MovingLaws

@@ -6,7 +6,7 @@ use Rattle.state_laws.specs.Conditions.{Takable}
 use Rattle.state_laws.specs.Moves.{taken}
 use Rattle.sat_lits.specs.declared.formula.Item.{Item}
 use Rattle.sat_lits.specs.declared.formula.Item.TheVariants.{Clause, Parity}
-use Rattle.private_state.specs.Parities.{ParityTakable, parity_taken}
+use Rattle.parity_forms.specs.Parities.{ParityTakable, parity_taken}
 
 -- the item's variables are there, and none of them comes to an eliminated one
 abbrev pub IsTakable : State → Item → Type 0

@@ -5,21 +5,10 @@
 //! that satisfy the hard clauses are rebuilt to a model of what was taken.
 #![tactic(auto)]
 
-mod collect;
-mod defined;
-mod forms;
-mod literals;
-mod made;
-mod odd;
-mod own_form;
-mod parity;
-mod put_in;
-mod removed;
 mod state;
 #[cfg(test)]
 mod tests;
 mod values;
 
-pub use literals::{own_lit, own_lits};
 pub use state::PrivateState;
 pub use state_laws::Definition;

@@ -13,25 +13,20 @@ ghost use Rattle.state_laws.specs.Moves.{put_into, taken, extended, learning, gr
 ghost use Rattle.state_laws.specs.Held.{in_value};
 ghost use Rattle.state_laws.specs.Kernel.{Standing, no_kernel, state_of, plain_kernel, Learns, Keeps, Longer, IsLearnedId, IsImplied};
 ghost use Rattle.state_laws.specs.RootTableLaws.{entry_of};
-ghost use Rattle.private_state.specs.Removed.{last_lit, fixed_value};
-ghost use Rattle.private_state.specs.Statuses.{status_of, IsEnd};
+ghost use Rattle.removed_vars.specs.Removed.{last_lit, fixed_value};
+ghost use Rattle.removed_vars.specs.Statuses.{status_of, IsEnd};
 ghost use Rattle.private_state.specs.Rebuilt.{rebuilt_values};
 ghost use Rattle.private_state.specs.Taking.{IsTakable, item_taken, MapsAfter};
-ghost use Rattle.private_state.specs.Parities.{ParityTakable, parity_taken, IsDefinable, defining_clauses};
+ghost use Rattle.parity_forms.specs.Parities.{ParityTakable, parity_taken, IsDefinable, defining_clauses};
 
-use crate::collect::{add_all, collect, drop_all};
-use crate::defined::made_by;
-use crate::forms::made_of;
-use crate::literals::in_lits;
-use crate::made::add_made;
-use crate::own_form::{add_hard, own_form};
-use crate::parity::own_pieces;
-use crate::put_in::var_of;
-use crate::removed::{RemovedVars, Status};
 use crate::values::{outer_values, own_values};
 use clause_store::ClauseStore;
 use indexed_store::IndexedStore;
+use parity_forms::{add_made, made_by, made_of, own_pieces};
 use rebuild_stack::{Entry, RebuildStack};
+use removed_vars::{
+    RemovedVars, Status, add_all, add_hard, collect, drop_all, in_lits, own_form, var_of,
+};
 use sat_lits::{ClauseId, Item, List, Lit, NoMemory, Own, OwnLit, Shared, Var};
 use state_laws::Definition;
 use std::alloc::Global;

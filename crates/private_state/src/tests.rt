@@ -7,7 +7,7 @@ ghost use Rattle.state_laws.specs.Moves.{grown, taken};
 ghost use Rattle.state_laws.specs.Held.{in_value};
 ghost use Rattle.state_laws.specs.Kernel.{state_of};
 ghost use Rattle.state_laws.specs.declared.definition.Definition.TheVariants.{Xor};
-ghost use Rattle.private_state.specs.Parities.{ParityTakable, IsDefinable};
+ghost use Rattle.parity_forms.specs.Parities.{ParityTakable, IsDefinable};
 
 use crate::{Definition, PrivateState};
 use clause_store::ClauseStore;

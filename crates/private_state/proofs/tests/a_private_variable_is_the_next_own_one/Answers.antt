@@ -2,7 +2,7 @@ use Rattle.std.proofs.Common.{[], ◌∷◌, refl, sym, subst, lit≤}
 use Rattle.xor_cut.specs.Pieces.{own_var}
 use Rattle.state_laws.specs.State.{State}
 use Rattle.state_laws.specs.declared.definition.Definition.TheVariants.{Xor}
-use Rattle.private_state.specs.Parities.{IsDefinable}
+use Rattle.parity_forms.specs.Parities.{IsDefinable}
 use Rattle.private_state.proofs.tests.a_private_variable_is_the_next_own_one.Goals as goal
 
 pub define-requires : goal.define-requires

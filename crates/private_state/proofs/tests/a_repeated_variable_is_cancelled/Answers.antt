@@ -1,6 +1,6 @@
 use Rattle.std.proofs.Common.{true, false, [], ◌∷◌, refl, sym, subst, lit≤}
 use Rattle.state_laws.specs.State.{State}
-use Rattle.private_state.specs.Parities.{ParityTakable}
+use Rattle.parity_forms.specs.Parities.{ParityTakable}
 use Rattle.private_state.proofs.Rows.{var}
 use Rattle.private_state.proofs.tests.a_repeated_variable_is_cancelled.Goals as goal
 

@@ -2,7 +2,7 @@ use Rattle.std.proofs.Common.{sym, ap, subst, ◌∙◌, List}
 use Rattle.sat_lits.specs.declared.literal.Own.{Own}
 use Rattle.state_laws.specs.Kernel.{state_of}
 use Rattle.state_laws.specs.declared.definition.Definition.TheVariants.{Xor}
-use Rattle.private_state.specs.Parities.{IsDefinable}
+use Rattle.parity_forms.specs.Parities.{IsDefinable}
 use Rattle.private_state.proofs.tests.define.Goals as goal
 
 pub define_private-requires : goal.define_private-requires

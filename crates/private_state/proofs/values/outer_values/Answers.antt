@@ -1,6 +1,6 @@
 use Rattle.std.proofs.Common.{◌∙◌, Bool, ◌++◌, ◌∷◌, [], ap, arith}
 use Rattle.rebuild_stack.specs.Values.{values_of}
-use Rattle.private_state.proofs.Collecting.{outer_value_step}
+use Rattle.private_state.proofs.Reading.{outer_value_step}
 use Rattle.private_state.proofs.values.outer_values.Goals as goal
 
 pub loop-var-preserved : goal.loop-var-preserved

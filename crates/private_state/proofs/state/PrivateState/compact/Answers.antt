@@ -1,7 +1,7 @@
 use Rattle.std.proofs.Common.{◌∙◌, ap}
 use Rattle.state_laws.specs.Kernel.{Kernel, state_of}
 use Rattle.private_state.specs.Kept.{kernel_of}
-use Rattle.private_state.proofs.Moving.{renumbered, renumbered-Standing}
+use Rattle.private_state.specs.MovingLaws.{renumbered, renumbered-Standing}
 use Rattle.private_state.proofs.state.PrivateState.compact.Goals as goal
 
 pub invariant_of-self : goal.invariant_of-self

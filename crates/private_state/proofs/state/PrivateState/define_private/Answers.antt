@@ -3,15 +3,15 @@ use Rattle.state_laws.specs.declared.definition.Definition.{Definition}
 use Rattle.state_laws.specs.ExtendLaws.{extended-Stands}
 use Rattle.state_laws.specs.Kernel.{Kernel, state_of}
 use Rattle.state_laws.specs.Moves.{extended}
-use Rattle.private_state.specs.Removed.{Removed}
-use Rattle.private_state.specs.Fresh.{in_clauses}
+use Rattle.removed_vars.specs.Removed.{Removed}
+use Rattle.removed_vars.specs.Fresh.{in_clauses}
 use Rattle.private_state.specs.Kept.{kernel_of}
-use Rattle.private_state.specs.MadeOf.{Tables, IsMade, IsUnmade}
-use Rattle.private_state.specs.Parities.{IsDefinable, defining_clauses}
-use Rattle.private_state.proofs.Moving.{plain-Standing}
-use Rattle.private_state.proofs.KernelMade.{HasMade, made_state, made-Standing}
-use Rattle.private_state.proofs.KernelParity.{unmade_kernel, made_vars}
-use Rattle.private_state.proofs.Defining.{definable-Defines, definable_may, definable_distinct, definable_made}
+use Rattle.parity_forms.specs.MadeOf.{Tables, IsMade, IsUnmade}
+use Rattle.parity_forms.specs.Parities.{IsDefinable, defining_clauses}
+use Rattle.private_state.specs.MovingLaws.{plain-Standing}
+use Rattle.parity_forms.specs.KernelMadeLaws.{HasMade, made_state, made-Standing}
+use Rattle.parity_forms.specs.KernelParityLaws.{unmade_kernel, made_vars}
+use Rattle.parity_forms.specs.DefiningLaws.{definable-Defines, definable_may, definable_distinct, definable_made}
 use Rattle.private_state.proofs.state.PrivateState.define_private.Goals as goal
 use Rattle.private_state.proofs.state.PrivateState.define_private.Goals.{In_ok-add_made}
 

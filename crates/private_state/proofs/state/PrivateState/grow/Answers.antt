@@ -10,9 +10,9 @@ use Rattle.state_laws.specs.Kernel.{Kernel, Standing, state_of, plain_kernel}
 use Rattle.state_laws.specs.KernelTakeLaws.{outers_len}
 use Rattle.state_laws.specs.KernelExtendLaws.{with_outer, grown_state, grown-Standing}
 use Rattle.state_laws.specs.ExtendLaws.{grown_none, grown_more}
-use Rattle.private_state.specs.Removed.{Removed}
+use Rattle.removed_vars.specs.Removed.{Removed}
 use Rattle.private_state.specs.Kept.{kernel_of}
-use Rattle.private_state.proofs.Moving.{plain-Standing, plain_state, reserved_kernel}
+use Rattle.private_state.specs.MovingLaws.{plain-Standing, plain_state, reserved_kernel}
 use Rattle.sat_lits.specs.ListLaws.{pushed}
 use Rattle.private_state.proofs.state.PrivateState.grow.Goals as goal
 

@@ -5,9 +5,9 @@ use Rattle.state_laws.specs.State.{is_active}
 use Rattle.state_laws.specs.Kernel.{Kernel, state_of}
 use Rattle.state_laws.specs.PlaceLaws.{once_named}
 use Rattle.private_state.specs.Kept.{kernel_of}
-use Rattle.private_state.specs.declared.removed.Status.{Status}
-use Rattle.private_state.specs.declared.removed.Status.TheVariants.{Kept, Fixed, Replaced, Eliminated}
-use Rattle.private_state.proofs.Following.{is_eliminated, block_status}
+use Rattle.removed_vars.specs.declared.removed.Status.{Status}
+use Rattle.removed_vars.specs.declared.removed.Status.TheVariants.{Kept, Fixed, Replaced, Eliminated}
+use Rattle.removed_vars.specs.StatusLaws.{is_eliminated, block_status}
 use Rattle.private_state.proofs.state.PrivateState.is_eliminated.Goals as goal
 
 -- any other status

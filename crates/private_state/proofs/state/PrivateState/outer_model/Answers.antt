@@ -12,7 +12,7 @@ use Rattle.state_laws.specs.ViewLaws.{map_map}
 use Rattle.state_laws.specs.KernelModelLaws.{own_within, outer_model_right}
 use Rattle.private_state.specs.Kept.{kernel_of}
 use Rattle.private_state.specs.Rebuilt.{rebuilt_values}
-use Rattle.private_state.proofs.Moving.{written_back}
+use Rattle.private_state.specs.MovingLaws.{written_back}
 use Rattle.private_state.proofs.state.PrivateState.outer_model.Goals as goal
 
 pub rebuild-requires : goal.rebuild-requires

@@ -8,11 +8,11 @@ use Rattle.state_laws.specs.HeldLaws.{Adds-ExtendsBy, rolled_back}
 use Rattle.state_laws.specs.Kernel.{Kernel, state_of, plain_kernel, Keeps}
 use Rattle.state_laws.specs.PutIntoLaws.{put_into-Stands}
 use Rattle.state_laws.specs.KernelPutIntoLaws.{Pushed, pushed_ready, pushed_state, pushed-Standing, pushed_keeps}
-use Rattle.private_state.specs.declared.collect.Fresh.{Fresh}
-use Rattle.private_state.specs.Fresh.{in_clauses}
-use Rattle.private_state.specs.Removed.{Removed}
+use Rattle.removed_vars.specs.declared.changes.Fresh.{Fresh}
+use Rattle.removed_vars.specs.Fresh.{in_clauses}
+use Rattle.removed_vars.specs.Removed.{Removed}
 use Rattle.private_state.specs.Kept.{kernel_of}
-use Rattle.private_state.proofs.Moving.{plain-Standing, active_unnamed, rolled_kernel}
+use Rattle.private_state.specs.MovingLaws.{plain-Standing, active_unnamed, rolled_kernel}
 use Rattle.private_state.proofs.state.PrivateState.push_entry.Goals as goal
 
 pub collect-requires-clause-ready : goal.collect-requires-clause-ready

@@ -8,9 +8,9 @@ use Rattle.state_laws.specs.Moves.{own_form, taken}
 use Rattle.state_laws.specs.Held.{has_inner}
 use Rattle.state_laws.specs.Kernel.{Kernel, state_of}
 use Rattle.state_laws.specs.KernelTakeLaws.{HoldsMore, own_form_outer, takable_there, takable_active, taken_state, taken-Standing}
-use Rattle.private_state.specs.Fresh.{hard_in}
+use Rattle.removed_vars.specs.Fresh.{hard_in}
 use Rattle.private_state.specs.Kept.{kernel_of}
-use Rattle.private_state.proofs.Moving.{stored_form}
+use Rattle.private_state.specs.MovingLaws.{stored_form}
 use Rattle.sat_lits.specs.ListLaws.{pushed}
 use Rattle.private_state.proofs.state.PrivateState.take_clause.Goals as goal
 

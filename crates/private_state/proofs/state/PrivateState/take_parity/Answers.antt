@@ -7,16 +7,16 @@ use Rattle.sat_lits.specs.declared.formula.Item.TheVariants.{Parity}
 use Rattle.xor_cut.specs.declared.piece.Piece.{Piece}
 use Rattle.state_laws.specs.declared.definition.Definition.{Definition}
 use Rattle.state_laws.specs.Kernel.{Kernel, state_of}
-use Rattle.private_state.specs.Removed.{Removed}
-use Rattle.private_state.specs.Fresh.{in_clauses, hard_in}
+use Rattle.removed_vars.specs.Removed.{Removed}
+use Rattle.removed_vars.specs.Fresh.{in_clauses, hard_in}
 use Rattle.private_state.specs.Kept.{kernel_of}
-use Rattle.private_state.specs.InMaps.{may_be_named, all_stored_forms}
-use Rattle.private_state.specs.MadeOf.{Tables, IsMade, IsUnmade}
-use Rattle.private_state.specs.Parities.{ParityTakable, parity_pieces, parity_taken, definitions_of, clauses_of}
-use Rattle.private_state.proofs.Moving.{plain-Standing}
-use Rattle.private_state.proofs.PieceChain.{parity-Stands}
-use Rattle.private_state.proofs.KernelMade.{HasMade, made_state, made-Standing}
-use Rattle.private_state.proofs.KernelParity.{parity_there, parity_below, parity_room, parity_pieces_are, parity_may, parity_fits, parity_distinct, parity_definitions, parity_made, unmade_kernel, made_vars}
+use Rattle.parity_forms.specs.InMaps.{may_be_named, all_stored_forms}
+use Rattle.parity_forms.specs.MadeOf.{Tables, IsMade, IsUnmade}
+use Rattle.parity_forms.specs.Parities.{ParityTakable, parity_pieces, parity_taken, definitions_of, clauses_of}
+use Rattle.private_state.specs.MovingLaws.{plain-Standing}
+use Rattle.parity_forms.specs.PieceLaws.{parity-Stands}
+use Rattle.parity_forms.specs.KernelMadeLaws.{HasMade, made_state, made-Standing}
+use Rattle.parity_forms.specs.KernelParityLaws.{parity_there, parity_below, parity_room, parity_pieces_are, parity_may, parity_fits, parity_distinct, parity_definitions, parity_made, unmade_kernel, made_vars}
 use Rattle.private_state.proofs.state.PrivateState.take_parity.Goals as goal
 use Rattle.private_state.proofs.state.PrivateState.take_parity.Goals.{After-drop-pieces-inside-2}
 

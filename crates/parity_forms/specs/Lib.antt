@@ -1,0 +1,12 @@
+pub mod Parities
+pub mod Marks
+pub mod InMaps
+pub mod MadeOf
+pub mod OddLaws
+pub mod FormLaws
+pub mod ParityRootLaws
+pub mod KernelMadeLaws
+pub mod StoredLaws
+pub mod PieceLaws
+pub mod KernelParityLaws
+pub mod DefiningLaws

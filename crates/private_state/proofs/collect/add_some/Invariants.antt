@@ -1,7 +1,0 @@
-use Rattle.std.proofs.Common.{take}
-use Rattle.state_laws.specs.Held.{Adds}
-use Rattle.private_state.specs.Fresh.{in_clauses}
-use Rattle.private_state.proofs.collect.add_some.Given as goal
-
-abbrev pub invariant-each : goal.invariant-each
-invariant-each l = Adds l.initial.store l.store l.ids.items (in_clauses (take l.clause-index l.fresh))

@@ -1,6 +1,0 @@
-use Rattle.std.proofs.Common.{◌≡◌, ℕ, take}
-use Rattle.private_state.specs.Marks.{is_marked, is_odd_in}
-use Rattle.private_state.proofs.odd.marks_of.Given as goal
-
-abbrev pub invariant-each : goal.invariant-each
-invariant-each l = (n : ℕ) → is_marked l.marks n ≡ is_odd_in (take l.number-index l.numbers) n

@@ -1,5 +1,0 @@
-use Rattle.std.proofs.Common.{◌≡◌, map, take}
-use Rattle.private_state.proofs.parity.numbers_of.Given as goal
-
-abbrev pub invariant-loop-var : goal.invariant-loop-var
-invariant-loop-var l = l.numbers ≡ map (λ v. v.0) (take l.var-index l.vars)

@@ -1,0 +1,147 @@
+ghost use Rattle.std.specs.Prelude.{◌≡◌, ◌+◌, ◌<◌, ◌∷◌, ◌++◌, [], false, Some, OnOk, OnErr};
+ghost use Rattle.std.specs.List.{list_any};
+ghost use Rattle.sat_lits.specs.Truth.{signed};
+ghost use Rattle.rebuild_stack.specs.Entries.{named, names};
+ghost use Rattle.rebuild_stack.specs.Roots.{root};
+ghost use Rattle.state_laws.specs.RootTableLaws.{entry_of};
+ghost use Rattle.removed_vars.specs.Removed.{IsInOrder, last_lit};
+ghost use Rattle.removed_vars.specs.Statuses.{status_of, IsEnd};
+
+use crate::roots::{turned, var_of};
+use rebuild_stack::{Entry, RebuildStack, Root};
+use sat_lits::{NoMemory, Own, OwnLit};
+use std::alloc::Global;
+use std::marker::Model;
+
+/// What the entry of an own variable says of it.
+#[derive(Clone, Copy, Debug, PartialEq, Eq)]
+pub enum Status {
+    /// No entry names it.
+    Kept,
+    /// It is fixed to this value.
+    Fixed(bool),
+    /// It is replaced by this literal.
+    Replaced(OwnLit),
+    /// It was eliminated.
+    Eliminated,
+}
+
+/// The stack of the variables that left the clauses, and what it says of each own variable.
+#[derive(Debug, Drop)]
+pub struct RemovedVars {
+    stack: RebuildStack,
+    statuses: Vec<Status>,
+}
+
+impl Model for RemovedVars {
+    ghost use Rattle.removed_vars.specs.Removed.{Removed};
+
+    ghost Value = { Removed };
+
+    ghost use Rattle.removed_vars.specs.RemovedKept.{removed_of, TellsEntries};
+
+    ghost view = { removed_of };
+
+    ghost invariant = { TellsEntries };
+}
+
+/// The value, or its opposite where `negative`.
+fn signed(negative: bool, value: bool) -> bool
+    ensures { result ≡ signed negative value }
+{
+    if negative { !value } else { value }
+}
+
+/// What an entry says of its variable.
+fn status_of(entry: &Entry) -> Status
+    ensures { result ≡ status_of (Some entry.now) }
+{
+    match entry {
+        Entry::Fix(lit) => Status::Fixed(!lit.negative),
+        Entry::Equal { lit, .. } => Status::Replaced(*lit),
+        Entry::Gone { .. } => Status::Eliminated,
+    }
+}
+
+impl RemovedVars {
+    /// No variables. It takes no memory.
+    pub fn new(alloc: Global) -> RemovedVars
+        ensures { result ≡ record { entries = []; vars = 0 } }
+    {
+        RemovedVars {
+            stack: RebuildStack::new(alloc),
+            statuses: Vec::new(alloc),
+        }
+    }
+
+    /// Adds this many variables, which no entry names. The only error is want of memory, and nothing
+    /// changes then.
+    pub fn add_vars(&mut self, more: u32) -> Result<(), NoMemory>
+        ensures ok { OnOk result (self.new ≡ record self.old { vars = self.old.vars + more }) }
+        ensures err { OnErr result (self.new ≡ self.old) }
+    {
+        let vars = self.statuses.len() + more as usize;
+        self.statuses.resize(vars, Status::Kept)?;
+        Ok(())
+    }
+
+    /// Pushes an entry of a variable that no entry names. The only error is want of memory, and
+    /// nothing changes then.
+    pub fn push(&mut self, entry: Entry) -> Result<(), NoMemory>
+        requires there { named entry < self.old.vars }
+        requires unnamed { list_any (names (named entry)) self.old.entries ≡ false }
+        ensures ok { OnOk result (self.new ≡ record self.old { entries = self.old.entries ++ entry ∷ [] }) }
+        ensures err { OnErr result (self.new ≡ self.old) }
+    {
+        let at = var_of(&entry).0 as usize;
+        let status = status_of(&entry);
+        self.stack.push(entry)?;
+        self.statuses[at] = status;
+        Ok(())
+    }
+
+    /// The entries, oldest first.
+    pub fn stack(&self) -> &RebuildStack
+        ensures { result.now ≡ self.now.entries }
+    {
+        &self.stack
+    }
+
+    /// What the stack says of a variable.
+    pub fn status(&self, var: Own) -> Status
+        ensures { result ≡ status_of (entry_of var.0 self.now.entries) }
+    {
+        self.statuses
+            .get(var.0 as usize)
+            .copied()
+            .unwrap_or(Status::Kept)
+    }
+
+    /// Follows replacements to the last literal, in as many steps as there are on its way.
+    pub fn last(&self, lit: OwnLit) -> OwnLit
+        requires { IsInOrder self.now.entries }
+        ensures last { result ≡ last_lit self.now.entries lit }
+        ensures root { root self.now.entries result ≡ root self.now.entries lit }
+        ensures end { IsEnd (status_of (entry_of result.var.0 self.now.entries)) }
+    {
+        let mut last = lit;
+        'follow: while let Status::Replaced(by) = self.status(last.var) {
+            last = turned(last.negative, by);
+        }
+        last
+    }
+
+    /// What a literal comes to along the entries.
+    pub fn root(&self, lit: OwnLit) -> Root
+        requires { IsInOrder self.now.entries }
+        ensures { result ≡ root self.now.entries lit }
+    {
+        let last = self.last(lit);
+        match self.status(last.var) {
+            Status::Kept => Root::Last(last),
+            Status::Fixed(value) => Root::Known(signed(last.negative, value)),
+            Status::Eliminated => Root::Lost(last.var),
+            Status::Replaced(_) => unreachable!(),
+        }
+    }
+}
