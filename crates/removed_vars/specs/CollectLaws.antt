@@ -4,6 +4,7 @@ use Rattle.std.proofs.lemmas.Bool.{and_parts, and_from, eqb-false}
 use Rattle.std.proofs.lemmas.List.{map-append}
 use Rattle.std.proofs.lemmas.List.Elements.{filter-append, filter_map-append}
 use Rattle.std.proofs.lemmas.Grind.{take_at_read}
+use Rattle.std.proofs.lemmas.Option.{slice_get_within}
 use Rattle.std.specs.List.{list_all, list_any, slice_get, cons_option}
 use Rattle.sat_lits.specs.InLits.{is_distinct}
 use Rattle.sat_lits.specs.ListLaws.{all_push, any_map, any_same}
@@ -20,13 +21,13 @@ use Rattle.clause_store.specs.Store.{Store, Held, clause_at, is_live, without}
 use Rattle.var_maps.specs.Maps.{Maps, Matched, inner_at, owner_at}
 use Rattle.indexed_store.specs.declared.short_id.ShortId.{ShortId}
 use Rattle.indexed_store.specs.Occurrences.{holds, occurrences, clauses_at}
-use Rattle.state_laws.specs.Held.{OwnClause, own_or, own_clause, own_of, has_inner, touches, strip, in_own, relisted, put_each, is_ready, numbers, without_ids}
+use Rattle.state_laws.specs.Held.{OwnClause, own_or, own_clause, own_of, has_inner, touches, strip, in_own, hard_clause, relisted, put_each, is_ready, numbers, without_ids}
 use Rattle.state_laws.specs.HeldLaws.{found, all_found, without_more}
 use Rattle.state_laws.specs.Resolution.{mentions, is_of}
 use Rattle.state_laws.specs.ViewLaws.{clean_distinct}
 use Rattle.removed_vars.specs.declared.changes.Fresh.{Fresh}
 use Rattle.removed_vars.specs.declared.changes.Changes.{Changes}
-use Rattle.removed_vars.specs.Fresh.{in_clause, in_clauses, are_distinct, Collects}
+use Rattle.removed_vars.specs.Fresh.{in_clause, in_clauses, are_distinct, Collects, Stores}
 
 -- the front of a list with one element more
 pub taken_at : {X : Type 0} (xs : List X) (i : ℕ) (d : X) → i < length xs → take (i + 1) xs ≡ take i xs ++ get_or xs i d ∷ []
@@ -45,6 +46,10 @@ pub got : {X : Type 0} (xs : List X) (i : ℕ) (d v : X) → slice_get xs i ≡ 
 got [] i d v e = cc
 got (x ∷ xs) zero d v e = cc
 got (x ∷ xs) (suc i) d v e = got xs i d v e
+
+-- the front of a list with one element more, which was looked up
+pub taken_some : {X : Type 0} (xs : List X) (k : ℕ) (x : X) → slice_get xs k ≡ Some x → take (k + 1) xs ≡ take k xs ++ x ∷ []
+taken_some xs k x e = taken_at xs k x (slice_get_within xs k x e) ∙ ap (λ z. take k xs ++ z ∷ []) (got xs k x x e)
 
 -- one id more is dropped
 pub dropping : (s : Store) (ids : List ClauseId) (k : ℕ) (d : ClauseId) → k < length ids
@@ -233,3 +238,16 @@ listed_touches m v i hs ids k d q e f l = go (clause_at hs (get_or ids k d).0) r
     go : (o : Option Held) → clause_at hs (get_or ids k d).0 ≡ o → IfSome o (λ h. IsTrue (touches m v h))
     go None g = tt
     go (Some h) g = touches_holds m v i q e h ∙ named_passes (holds i.0) hs ids k d h (ap (list_all (holds i.0)) f ∙ holds_all i.0 hs) l g
+
+-- one clause more is to be stored
+pub stores_more : (m : Maps) (olds news : List Fresh) (cs : List (List OwnLit)) (lits : List InLit) (clause : List OwnLit) → news ≡ olds ++ (record { learned = false; lits = lits }) ∷ [] → own_clause m lits ≡ clause → is_distinct lits ≡ true
+    → Stores m olds cs → Stores m news (cs ++ clause ∷ [])
+stores_more m olds news cs lits clause e f d s =
+    record {
+      become = ap (λ z. map (in_own m) (in_clauses z)) e
+          ∙ (ap (map (in_own m)) (map-append in_clause olds (fresh ∷ [])) ∙ (map-append (in_own m) (in_clauses olds) (in_clauses (fresh ∷ [])) ∙ (ap₂ {C = List _} ◌++◌ s.become (ap (λ z. hard_clause z ∷ []) f) ∙ sym (map-append hard_clause cs (clause ∷ [])))));
+      distinct = ap are_distinct e ∙ all_push (λ (x : Fresh). is_distinct x.lits) olds fresh s.distinct d;
+    }
+  where
+    fresh : Fresh
+    fresh = record { learned = false; lits = lits }

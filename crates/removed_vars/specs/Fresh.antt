@@ -7,7 +7,7 @@ use Rattle.sat_lits.specs.declared.literal.InLit.{InLit}
 use Rattle.rebuild_stack.specs.declared.entry.Root.{Root}
 use Rattle.clause_store.specs.Store.{Held}
 use Rattle.var_maps.specs.Maps.{Maps}
-use Rattle.state_laws.specs.Held.{InClause, Collected, numbers}
+use Rattle.state_laws.specs.Held.{InClause, Collected, numbers, in_own, hard_clause}
 use Rattle.removed_vars.specs.declared.changes.Fresh.{Fresh}
 use Rattle.removed_vars.specs.declared.changes.Changes.{Changes}
 
@@ -35,3 +35,8 @@ are_distinct fs = list_all (λ f. is_distinct f.lits) fs
 pub record Collects (m : Maps) (r : OwnLit → Root) (v : ℕ) (held : List Held) (to : Changes) : Type 0 where
   pub collected : Collected m r v held (numbers to.doomed.items) (in_clauses to.fresh.items)
   pub distinct : are_distinct to.fresh.items ≡ true
+
+-- what is to be stored are these clauses, all hard, and no literal stands twice in one
+pub record Stores (m : Maps) (fresh : List Fresh) (cs : List (List OwnLit)) : Type 0 where
+  pub become : map (in_own m) (in_clauses fresh) ≡ map hard_clause cs
+  pub distinct : are_distinct fresh ≡ true

@@ -3,6 +3,8 @@ pub mod Fresh
 pub mod Removed
 pub mod Statuses
 pub mod RemovedKept
+pub mod Restoring
 pub mod PuttingLaws
 pub mod StatusLaws
 pub mod CollectLaws
+pub mod RestoringLaws

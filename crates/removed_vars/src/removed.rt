@@ -1,4 +1,4 @@
-ghost use Rattle.std.specs.Prelude.{◌≡◌, ◌+◌, ◌<◌, ◌∷◌, ◌++◌, [], false, Some, OnOk, OnErr};
+ghost use Rattle.std.specs.Prelude.{◌≡◌, ◌+◌, ◌<◌, ◌∷◌, ◌++◌, [], false, Some, length, remove, OnOk, OnErr};
 ghost use Rattle.std.specs.List.{list_any};
 ghost use Rattle.sat_lits.specs.Truth.{signed};
 ghost use Rattle.rebuild_stack.specs.Entries.{named, names};
@@ -98,6 +98,16 @@ impl RemovedVars {
         self.stack.push(entry)?;
         self.statuses[at] = status;
         Ok(())
+    }
+
+    /// Takes out the entry at a place, counted from the oldest. The others close up.
+    pub fn remove(&mut self, at: usize)
+        requires there { at < length self.old.entries }
+        requires order { IsInOrder self.old.entries }
+        ensures { self.new ≡ record self.old { entries = remove self.old.entries at } }
+    {
+        let entry = self.stack.remove(at);
+        self.statuses[var_of(&entry).0 as usize] = Status::Kept;
     }
 
     /// The entries, oldest first.
