@@ -1,4 +1,5 @@
 pub mod Taking
 pub mod Kept
 pub mod Rebuilt
+pub mod Restoring
 pub mod MovingLaws

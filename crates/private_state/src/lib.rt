@@ -5,6 +5,7 @@
 //! that satisfy the hard clauses are rebuilt to a model of what was taken.
 #![tactic(auto)]
 
+mod restore;
 mod state;
 #[cfg(test)]
 mod tests;

@@ -39,13 +39,13 @@ use var_maps::VarMaps;
 /// a `Gone` entry of the stack names it.
 #[derive(Debug, Drop)]
 pub struct PrivateState {
-    alloc: Global,
+    pub(crate) alloc: Global,
     items: Vec<Item>,
     entries: Vec<Shared>,
     definitions: Vec<Option<Definition>>,
-    maps: VarMaps,
-    store: IndexedStore,
-    removed: RemovedVars,
+    pub(crate) maps: VarMaps,
+    pub(crate) store: IndexedStore,
+    pub(crate) removed: RemovedVars,
     okay: bool,
 }
 

@@ -1,6 +1,7 @@
 -- The variables that left the clauses.
-use Rattle.std.specs.Prelude.{◌≡◌, ℕ, ◌==◌, Bool, true, not, cond, List, [], ◌∷◌, Some, None}
+use Rattle.std.specs.Prelude.{◌≡◌, ℕ, ◌==◌, Bool, true, not, cond, List, [], ◌∷◌, Some, None, slice_get}
 use Rattle.std.specs.declared.option.Option.{Option}
+use Rattle.sat_lits.specs.declared.literal.Own.{Own}
 use Rattle.sat_lits.specs.declared.literal.OwnLit.{OwnLit}
 use Rattle.rebuild_stack.specs.Entries.{ordered}
 use Rattle.rebuild_stack.specs.Roots.{turned}
@@ -18,6 +19,11 @@ pub record IsInOrder (entries : List Entry) : Type 0 where
   pub active : ℕ → Bool
   pub once : AreOnce active entries
   pub order : ordered active entries ≡ true
+
+-- the entry at the place is a `Gone` of the variable
+pub record HasBlock (v : Own) (entries : List Entry) (at : ℕ) : Type 0 where
+  pub clauses : List (List OwnLit)
+  pub entry : slice_get entries at ≡ Some (Gone v clauses)
 
 -- the literal that is left where each replaced variable goes on as the literal that replaces it
 abbrev pub last_lit : List Entry → OwnLit → OwnLit

@@ -3,6 +3,7 @@ use Rattle.std.proofs.Common.{◌≡◌, get_or-set_same, get_or-set_other, ℕ,
 use Rattle.std.proofs.lemmas.Bool.{and_parts, or_cases, eq-eqb, eqb-true, eqb-false}
 use Rattle.std.proofs.lemmas.List.Elements.{filter_map-append}
 use Rattle.std.specs.List.{list_any, list_all, cons_option}
+use Rattle.sat_lits.specs.ListLaws.{any_get}
 use Rattle.sat_lits.specs.declared.literal.Own.{Own}
 use Rattle.sat_lits.specs.declared.literal.OwnLit.{OwnLit}
 use Rattle.rebuild_stack.specs.Entries.{named, names, times_named, ordered}
@@ -153,3 +154,19 @@ erased xs s at e i f n o h k = go (k == named e) refl
 -- what one clause more comes to
 pub put_more : (r : OwnLit → Root) (cs : List (List OwnLit)) (k : ℕ) (c : List OwnLit) → slice_get cs k ≡ Some c → put_in_all r (take (k + 1) cs) ≡ put_in_all r (take k cs) ++ put_in_all r (c ∷ [])
 put_more r cs k c e = ap (put_in_all r) (taken_some cs k c e) ∙ filter_map-append (put_in r) (take k cs) (c ∷ [])
+
+-- a variable that is named once at most stands at one place
+pub place_once : (k : ℕ) (s : List Entry) (i j : ℕ) (e f : Entry) → times_named k s ≤ 1 → slice_get s i ≡ Some e → names k e ≡ true → slice_get s j ≡ Some f → names k f ≡ true → i ≡ j
+place_once k [] i j e f t p n q m = cc
+place_once k (x ∷ s) zero zero e f t p n q m = refl
+place_once k (x ∷ s) zero (suc j) e f t p n q m =
+    let same : x ≡ e = cc in
+    let one : cond {A = ℕ} (names k x) 1 0 ≡ 1 = one_if _ (ap (names k) same ∙ n) in
+    let more : 1 ≤ times_named k s = times_any k s (any_get (names k) s j f q m) in
+    absurd (omega arith)
+place_once k (x ∷ s) (suc i) zero e f t p n q m =
+    let same : x ≡ f = cc in
+    let one : cond {A = ℕ} (names k x) 1 0 ≡ 1 = one_if _ (ap (names k) same ∙ m) in
+    let more : 1 ≤ times_named k s = times_any k s (any_get (names k) s i e p n) in
+    absurd (omega arith)
+place_once k (x ∷ s) (suc i) (suc j) e f t p n q m = ap suc (place_once k s i j e f (omega arith) p n q m)

@@ -12,6 +12,7 @@ mod literals;
 mod removed;
 mod restoring;
 mod roots;
+mod stamps;
 mod taking;
 
 pub use changes::{Changes, Fresh, add_all, collect, drop_all};

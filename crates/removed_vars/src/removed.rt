@@ -1,13 +1,14 @@
-ghost use Rattle.std.specs.Prelude.{◌≡◌, ◌+◌, ◌<◌, ◌∷◌, ◌++◌, [], false, Some, length, remove, OnOk, OnErr};
+ghost use Rattle.std.specs.Prelude.{◌≡◌, ◌+◌, ◌<◌, ◌∷◌, ◌++◌, ◌↔◌, [], false, Some, length, remove, IsNone, IfSome, OnOk, OnErr};
 ghost use Rattle.std.specs.List.{list_any};
 ghost use Rattle.sat_lits.specs.Truth.{signed};
-ghost use Rattle.rebuild_stack.specs.Entries.{named, names};
+ghost use Rattle.rebuild_stack.specs.Entries.{named, names, is_block_of};
 ghost use Rattle.rebuild_stack.specs.Roots.{root};
 ghost use Rattle.state_laws.specs.RootTableLaws.{entry_of};
-ghost use Rattle.removed_vars.specs.Removed.{IsInOrder, last_lit};
+ghost use Rattle.removed_vars.specs.Removed.{HasBlock, IsInOrder, last_lit};
 ghost use Rattle.removed_vars.specs.Statuses.{status_of, IsEnd};
 
 use crate::roots::{turned, var_of};
+use crate::stamps::Stamps;
 use rebuild_stack::{Entry, RebuildStack, Root};
 use sat_lits::{NoMemory, Own, OwnLit};
 use std::alloc::Global;
@@ -30,7 +31,9 @@ pub enum Status {
 #[derive(Debug, Drop)]
 pub struct RemovedVars {
     stack: RebuildStack,
+    /// What the stack says of each variable, by own number.
     statuses: Vec<Status>,
+    stamps: Stamps,
 }
 
 impl Model for RemovedVars {
@@ -71,6 +74,7 @@ impl RemovedVars {
         RemovedVars {
             stack: RebuildStack::new(alloc),
             statuses: Vec::new(alloc),
+            stamps: Stamps::new(alloc),
         }
     }
 
@@ -81,6 +85,7 @@ impl RemovedVars {
         ensures err { OnErr result (self.new ≡ self.old) }
     {
         let vars = self.statuses.len() + more as usize;
+        self.stamps.make_vars(vars)?;
         self.statuses.resize(vars, Status::Kept)?;
         Ok(())
     }
@@ -93,10 +98,14 @@ impl RemovedVars {
         ensures ok { OnOk result (self.new ≡ record self.old { entries = self.old.entries ++ entry ∷ [] }) }
         ensures err { OnErr result (self.new ≡ self.old) }
     {
-        let at = var_of(&entry).0 as usize;
+        let var = var_of(&entry);
         let status = status_of(&entry);
-        self.stack.push(entry)?;
-        self.statuses[at] = status;
+        self.stamps.push(var)?;
+        if let Err(error) = self.stack.push(entry) {
+            self.stamps.pop();
+            return Err(error);
+        }
+        self.statuses[var.0 as usize] = status;
         Ok(())
     }
 
@@ -107,7 +116,23 @@ impl RemovedVars {
         ensures { self.new ≡ record self.old { entries = remove self.old.entries at } }
     {
         let entry = self.stack.remove(at);
+        self.stamps.remove(at);
         self.statuses[var_of(&entry).0 as usize] = Status::Kept;
+    }
+
+    /// The place of a `Gone` entry of a variable, counted from the oldest entry. None comes exactly
+    /// where there is no such entry. It takes time logarithmic in the number of entries.
+    pub fn block_of(&self, var: Own) -> Option<usize>
+        ensures none { IsNone result ↔ (list_any (is_block_of var) self.now.entries ≡ false) }
+        ensures entry { IfSome result (HasBlock var self.now.entries) }
+    {
+        let at = self.stamps.guess(var);
+        if let Some(Entry::Gone { var: gone, .. }) = self.stack.entries().get(at) {
+            if *gone == var {
+                return Some(at);
+            }
+        }
+        self.stack.block_of(var)
     }
 
     /// The entries, oldest first.

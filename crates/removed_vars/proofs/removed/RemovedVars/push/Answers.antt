@@ -10,7 +10,7 @@ invariant_of-self-2 c =
     let there : named c.args.entry < length c.self.inside.statuses.items = subst (λ (r : Removed). named c.args.entry < r.vars) (sym c.self.view_is) c.requires.there in
     let free : list_any (names (named c.args.entry)) c.self.inside.stack ≡ false = ap (λ (r : Removed). list_any (names (named c.args.entry)) r.entries) c.self.view_is ∙ c.requires.unnamed in
     record {
-      each = rw c.in_ok-push.ensures.ok
-          (written c.self.inside.statuses.items c.self.inside.stack c.args.entry c.var_of-at.result.0 c.status_of-status.result c.var_of-at.ensures c.status_of-status.ensures
-          (omega (arith, there, c.var_of-at.ensures)) free c.self.invariant.each);
+      each = rw c.in_default.ensures.ok
+          (written c.self.inside.statuses.items c.self.inside.stack c.args.entry c.var_of-var.result.0 c.status_of-status.result c.var_of-var.ensures c.status_of-status.ensures
+          (omega (arith, there, c.var_of-var.ensures)) free c.self.invariant.each);
     }
