@@ -1,3 +1,4 @@
 pub mod Rows
 pub mod Reading
 pub mod Reviving
+pub mod Resolving

@@ -3,3 +3,5 @@ pub mod Kept
 pub mod Rebuilt
 pub mod Restoring
 pub mod MovingLaws
+pub mod Bounds
+pub mod Resolving

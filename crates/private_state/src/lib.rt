@@ -5,8 +5,12 @@
 //! that satisfy the hard clauses are rebuilt to a model of what was taken.
 #![tactic(auto)]
 
+mod bound;
+mod eliminate;
+mod resolve;
 mod restore;
 mod state;
+mod take_out;
 #[cfg(test)]
 mod tests;
 mod values;

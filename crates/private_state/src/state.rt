@@ -5,7 +5,8 @@ ghost use Rattle.sat_lits.specs.Meaning.{IsModel};
 ghost use Rattle.rebuild_stack.specs.Entries.{named, is_block_of};
 ghost use Rattle.rebuild_stack.specs.Roots.{root};
 ghost use Rattle.rebuild_stack.specs.declared.entry.Entry.TheVariants.{Fix};
-ghost use Rattle.clause_store.specs.Store.{contents, hard_of, without};
+ghost use Rattle.clause_store.specs.Store.{IsKept, contents, hard_of, without};
+ghost use Rattle.indexed_store.specs.Occurrences.{clauses_at, occurrences};
 ghost use Rattle.var_maps.specs.Maps.{plain, retired};
 ghost use Rattle.state_laws.specs.State.{is_active, outer_count, problem_of};
 ghost use Rattle.state_laws.specs.Conditions.{IsContradicted, EntryFollows, Pushable, Takable, Learnable};
@@ -21,13 +22,13 @@ ghost use Rattle.parity_forms.specs.Parities.{ParityTakable, parity_taken, IsDef
 
 use crate::values::{outer_values, own_values};
 use clause_store::ClauseStore;
-use indexed_store::IndexedStore;
+use indexed_store::{IndexedStore, ShortId};
 use parity_forms::{add_made, made_by, made_of, own_pieces};
 use rebuild_stack::{Entry, RebuildStack};
 use removed_vars::{
     RemovedVars, Status, add_all, add_hard, collect, drop_all, in_lits, own_form, var_of,
 };
-use sat_lits::{ClauseId, Item, List, Lit, NoMemory, Own, OwnLit, Shared, Var};
+use sat_lits::{ClauseId, Inner, Item, List, Lit, NoMemory, Own, OwnLit, Shared, Var};
 use state_laws::Definition;
 use std::alloc::Global;
 use std::marker::Model;
@@ -141,6 +142,15 @@ impl PrivateState {
         ensures standing { Standing self.now }
     {
         self.store.store()
+    }
+
+    /// The ids of the clauses that hold a variable, in order of addition. Among them may be ids
+    /// that are not live.
+    pub fn occurrences(&self, var: Inner) -> &[ShortId]
+        ensures value { clauses_at self.now.store.held result.now ≡ occurrences var.0 self.now.store.held }
+        ensures kept { IsKept self.now.store }
+    {
+        self.store.occurrences(var)
     }
 
     /// The variables that left the clauses, and how their values are rebuilt.

@@ -12,7 +12,7 @@ ghost use Rattle.parity_forms.specs.Parities.{ParityTakable, IsDefinable};
 use crate::{Definition, PrivateState};
 use clause_store::ClauseStore;
 use rebuild_stack::Entry;
-use sat_lits::{ClauseId, InLit, Item, List, Lit, NoMemory, Own, OwnLit, Var};
+use sat_lits::{ClauseId, InLit, Inner, Item, List, Lit, NoMemory, Own, OwnLit, Var};
 use std::alloc::Global;
 use std::process::Abort;
 use std::test::Fail;
@@ -29,6 +29,16 @@ const NOT_FIRST: Lit = Lit {
 
 const SECOND: Lit = Lit {
     var: Var(1),
+    negative: false,
+};
+
+const NOT_SECOND: Lit = Lit {
+    var: Var(1),
+    negative: true,
+};
+
+const THIRD: Lit = Lit {
+    var: Var(2),
     negative: false,
 };
 
@@ -258,5 +268,48 @@ fn a_private_variable_is_the_next_own_one(rt: HostRuntime) -> Result<(), Fail> {
         satisfies(state.clauses(), &[true, false, false, true]),
         true
     );
+    Ok(())
+}
+
+/// Whether these two clauses are held, in order, and no other.
+fn holds_two(store: &ClauseStore, one: [InLit; 2], two: [InLit; 2]) -> bool {
+    let Some(first) = store.first() else {
+        return false;
+    };
+    let Some(second) = store.after(first) else {
+        return false;
+    };
+    store.lits(first) == one.as_slice()
+        && store.lits(second) == two.as_slice()
+        && store.after(second).is_none()
+}
+
+fn in_lit(var: u32, negative: bool) -> InLit {
+    InLit {
+        var: Inner(var),
+        negative,
+    }
+}
+
+#[test]
+fn an_eliminated_variable_leaves_its_resolvents(rt: HostRuntime) -> Result<(), Fail> {
+    let mut state = new_state(rt.alloc(), 3)?;
+    take(rt.alloc(), &mut state, &[FIRST, SECOND])?;
+    take(rt.alloc(), &mut state, &[FIRST, NOT_SECOND])?;
+    take(rt.alloc(), &mut state, &[NOT_FIRST, THIRD])?;
+    state.eliminate(Own(0))?;
+
+    let store = state.clauses();
+    assert!(rt;
+        holds_two(
+            store,
+            [in_lit(1, false), in_lit(2, false)],
+            [in_lit(1, true), in_lit(2, false)]
+        )
+    );
+    assert_eq!(rt; state.is_eliminated(Own(0)), true);
+    assert_eq!(rt; state.occurrences(Inner(0)).len(), 3);
+    let values = model(&rt, &state, &[false, false, true])?;
+    assert_eq!(rt; values.as_slice(), [true, false, true].as_slice());
     Ok(())
 }

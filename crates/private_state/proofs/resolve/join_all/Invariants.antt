@@ -1,0 +1,7 @@
+use Rattle.std.proofs.Common.{take}
+use Rattle.state_laws.specs.Resolution.{joins}
+use Rattle.private_state.specs.Resolving.{Stores}
+use Rattle.private_state.proofs.resolve.join_all.Given as goal
+
+abbrev pub invariant-each : goal.invariant-each
+invariant-each l = Stores l.maps l.fresh.items (joins (take l.left-index l.lefts) l.rights)

@@ -1,0 +1,11 @@
+use Rattle.std.proofs.Common.{take, length, ◌≤◌}
+use Rattle.state_laws.specs.Resolution.{joins}
+use Rattle.private_state.specs.Resolving.{Stores}
+use Rattle.private_state.proofs.resolve.join_within.Given as goal
+
+abbrev pub invariant-each : goal.invariant-each
+invariant-each l =
+    record {
+      stores : Stores l.maps l.fresh.items (joins (take l.left-index l.lefts) l.rights);
+      few : length l.fresh.items ≤ l.most;
+    }

@@ -1,0 +1,9 @@
+use Rattle.std.proofs.Common.{◌∙◌, ap}
+use Rattle.rebuild_stack.specs.Values.{each_lit}
+use Rattle.state_laws.specs.Held.{has_inner}
+use Rattle.private_state.specs.Kept.{kernel_of}
+use Rattle.private_state.proofs.Resolving.{block_active}
+use Rattle.private_state.proofs.state.PrivateState.eliminate_within_bound.Goals as goal
+
+pub resolve_within_bound-requires : goal.resolve_within_bound-requires
+resolve_within_bound-requires c = ap (each_lit (has_inner c.self.inside.maps)) c.in_ok-taken.ensures.taken.block ∙ block_active (kernel_of c.self.inside) c.args.var.0 c.self.invariant.standing
