@@ -4,7 +4,7 @@ ghost use Rattle.sat_lits.specs.Truth.{clauses_value};
 ghost use Rattle.sat_lits.specs.Meaning.{IsModel};
 ghost use Rattle.rebuild_stack.specs.Entries.{named, is_block_of};
 ghost use Rattle.rebuild_stack.specs.Roots.{root};
-ghost use Rattle.rebuild_stack.specs.declared.entry.Entry.TheVariants.{Fix};
+ghost use Rattle.rebuild_stack.specs.declared.entry.Entry.TheVariants.{Fix, Equal};
 ghost use Rattle.clause_store.specs.Store.{IsKept, contents, hard_of, without};
 ghost use Rattle.indexed_store.specs.Occurrences.{clauses_at, occurrences};
 ghost use Rattle.var_maps.specs.Maps.{plain, retired};
@@ -305,6 +305,21 @@ impl PrivateState {
         ensures err { OnErr result (plain_kernel self.new ≡ plain_kernel self.old) }
     {
         self.push_entry(Entry::Fix(lit))
+    }
+
+    /// Replaces an active variable by a literal of another active one, which has its value wherever
+    /// the hard and the learned clauses are satisfied: pushes an `Equal` entry, and puts the literal
+    /// into the clauses that hold the variable. The only error is want of memory, and nothing
+    /// changes then.
+    pub fn replace(&mut self, var: Own, by: OwnLit) -> Result<(), NoMemory>
+        requires pushable { Pushable (state_of self.old) (Equal var by) }
+        requires follows { EntryFollows (state_of self.old) (Equal var by) }
+        ensures ok { OnOk result (state_of self.new ≡ put_into (Equal var by) (state_of self.old)) }
+        ensures ids { OnOk result (Keeps self.old self.new var.0) }
+        ensures maps { OnOk result (plain self.new.maps ≡ plain (retired var.0 self.old.maps)) }
+        ensures err { OnErr result (plain_kernel self.new ≡ plain_kernel self.old) }
+    {
+        self.push_entry(Entry::Equal { var, lit: by })
     }
 
     /// Pushes an entry that follows and fixes or replaces an active variable, and puts it into the
