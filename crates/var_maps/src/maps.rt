@@ -175,6 +175,7 @@ impl VarMaps {
     /// A number that is greater than every inner number in use, and at most the number of variables.
     pub fn inner_len(&self) -> u32
         ensures value { result ≡ length self.now.owners }
+        ensures few { result ≤ 2 ^ 31 }
         ensures matched { Matched self.now }
     {
         self.owners.len() as u32

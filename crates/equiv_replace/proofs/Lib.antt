@@ -1,0 +1,14 @@
+pub mod Cutting
+pub mod Walking
+pub mod Steps
+pub mod Paths
+pub mod Ends
+pub mod Building
+pub mod Telling
+pub mod Rowing
+pub mod Rooting
+pub mod Nodes
+pub mod Replacing
+pub mod Starting
+pub mod NoCycles
+pub mod Ending

@@ -1,0 +1,9 @@
+pub mod Graphs
+pub mod Rows
+pub mod RowsKept
+pub mod Parts
+pub mod PathKept
+pub mod Walks
+pub mod Nodes
+pub mod Binary
+pub mod Replaced
