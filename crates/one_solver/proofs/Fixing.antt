@@ -35,7 +35,7 @@ use Rattle.private_state.specs.MovingLaws.{active_unnamed}
 use Rattle.one_solver.specs.Basic.{IsBasic}
 use Rattle.one_solver.specs.Fixing.{IsHeldOrFixed, IsFixing}
 use Rattle.one_solver.specs.Learned.{HasForgotten}
-use Rattle.one_solver.specs.Units.{is_short, is_empty, is_unit, HasNoUnits, IsFixed, FixesUnits}
+use Rattle.one_solver.specs.Units.{is_short, is_empty, is_unit, HasNoUnits, IsFixed, StayFixed, FixesUnits}
 
 -- a clause of one literal is that literal
 pub unit_is : (l : InLit) (c : List InLit) → is_unit (same_in l) c ≡ true → c ≡ l ∷ []
@@ -182,6 +182,30 @@ hold_step k n o l s a e h = ⊎_elim held (λ r. ⊎_elim fixed empty r) h
         go true g true q = inr (inl (ap fixed_value (entry ∙ ap (λ b. cond b (Some (Fix o)) (entry_of l.var.0 k.stack)) g) ∙ ap (λ b. Some (not b)) (sym (beq_true _ _ q))))
         go true g false q = inr (inr (move is_empty (back is_empty (filter (λ c. not (mentions o.var.0 c)) (state_of k).hard) (put_in_all (root (Fix o ∷ [])) (filter (mentions o.var.0) (state_of k).hard)) (turns_empty o l (state_of k).hard (eqb-true _ _ g) q f))))
 
+fixed_append : (v : ℕ) (b : Bool) (xs es : List Entry) → fixed_value (entry_of v xs) ≡ Some b → fixed_value (entry_of v (xs ++ es)) ≡ Some b
+fixed_append v b [] es e = absurd (none b e)
+  where
+    none : (b : Bool) → None ≡ Some b → ⊥
+    none b e = cc
+fixed_append v b (x ∷ xs) es e = go (names v x) (fixed_append v b xs es) e
+  where
+    go : (c : Bool) → (fixed_value (entry_of v xs) ≡ Some b → fixed_value (entry_of v (xs ++ es)) ≡ Some b) → fixed_value (cond c (Some x) (entry_of v xs)) ≡ Some b → fixed_value (cond c (Some x) (entry_of v (xs ++ es))) ≡ Some b
+    go true r f = f
+    go false r f = r f
+
+-- what was fixed is so where entries are pushed
+pub stays_by : (k n : Kernel) (es : List Entry) → n.stack ≡ k.stack ++ es → StayFixed k n
+stays_by k n es e l f = ap (λ (s : List Entry). fixed_value (entry_of l.var.0 s)) e ∙ fixed_append l.var.0 (not l.negative) k.stack es f
+
+fewer : (xs : List Bool) (i : ℕ) → get_or xs i false ≡ true → count_by (λ b. b) (set xs i false) < count_by (λ b. b) xs
+fewer xs i e =
+    let one : cond {A = ℕ} (get_or xs i false) 1 0 ≡ 1 = ap (λ b. cond {A = ℕ} b 1 0) e in
+    omega (arith, one, sum_by-set (λ (b : Bool). cond {A = ℕ} b 1 0) xs i false false (active_in xs i e))
+
+-- fewer variables are active after each literal that is fixed
+pub fewer_active : (k n : Kernel) (o : OwnLit) → is_active (state_of k) o.var.0 ≡ true → state_of n ≡ put_into (Fix o) (state_of k) → count_by (λ b. b) (state_of n).active < count_by (λ b. b) (state_of k).active
+fewer_active k n o a e = subst (λ (xs : List Bool). count_by (λ b. b) xs < count_by (λ b. b) (state_of k).active) (sym (ap (λ (z : State). z.active) e)) (fewer (state_of k).active o.var.0 a)
+
 -- a literal more is fixed
 pub fixing_step : (first k n : Kernel) (o : OwnLit) → Standing k → is_active (state_of k) o.var.0 ≡ true → state_of n ≡ put_into (Fix o) (state_of k) → IsFixing first k → IsFixing first n
 fixing_step first k n o s a e h =
@@ -197,21 +221,14 @@ fixing_step first k n o s a e h =
         definitions = ap (λ (z : State). z.definitions) e ∙ h.same.definitions;
         okay = λ t. h.same.okay (sym (ap (λ (z : State). z.okay) e) ∙ t);
       };
+      fewer = let f : count_by (λ b. b) (state_of n).active < count_by (λ b. b) (state_of k).active = fewer_active k n o a e in let g : count_by (λ b. b) (state_of k).active ≤ count_by (λ b. b) (state_of first).active = h.fewer in omega arith;
+      stays = λ l f. stays_by k n (Fix o ∷ []) (ap (λ (z : State). z.stack) e) l (h.stays l f);
       units = λ l u. hold_step k n o l s a e (h.units l u);
     }
 
 -- at first each is held
 pub fixing_start : (k : Kernel) → IsBasic k → IsFixing k k
-fixing_start k b = record { basic = b; same = record { items = refl; entries = refl; definitions = refl; okay = λ t. t }; units = λ l u. inl u }
-
-fewer : (xs : List Bool) (i : ℕ) → get_or xs i false ≡ true → count_by (λ b. b) (set xs i false) < count_by (λ b. b) xs
-fewer xs i e =
-    let one : cond {A = ℕ} (get_or xs i false) 1 0 ≡ 1 = ap (λ b. cond {A = ℕ} b 1 0) e in
-    omega (arith, one, sum_by-set (λ (b : Bool). cond {A = ℕ} b 1 0) xs i false false (active_in xs i e))
-
--- fewer variables are active after each literal that is fixed
-pub fewer_active : (k n : Kernel) (o : OwnLit) → is_active (state_of k) o.var.0 ≡ true → state_of n ≡ put_into (Fix o) (state_of k) → count_by (λ b. b) (state_of n).active < count_by (λ b. b) (state_of k).active
-fewer_active k n o a e = subst (λ (xs : List Bool). count_by (λ b. b) xs < count_by (λ b. b) (state_of k).active) (sym (ap (λ (z : State). z.active) e)) (fewer (state_of k).active o.var.0 a)
+fixing_start k b = record { basic = b; same = record { items = refl; entries = refl; definitions = refl; okay = λ t. t }; fewer = omega arith; stays = λ l f. f; units = λ l u. inl u }
 
 short_own : (m : Maps) (c : List InLit) → is_short (own_clause m c) ≡ is_short c
 short_own m [] = refl
@@ -259,6 +276,12 @@ renumbered_same first k n e t = subst (λ (z : Kernel). TookSame first z) (sym e
 
 pub renumbered_fixed : (first k n : Kernel) → n ≡ record k { store = n.store } → (k.okay ≡ true → FixesUnits first k) → n.okay ≡ true → FixesUnits first n
 renumbered_fixed first k n e f o l u = ap (λ (z : Kernel). fixed_value (entry_of l.var.0 z.stack)) e ∙ f (sym (ap (λ (z : Kernel). z.okay) e) ∙ o) l u
+
+pub renumbered_fewer : (first k n : Kernel) → state_of n ≡ state_of k → count_by (λ b. b) (state_of k).active ≤ count_by (λ b. b) (state_of first).active → count_by (λ b. b) (state_of n).active ≤ count_by (λ b. b) (state_of first).active
+renumbered_fewer first k n q h = subst (λ (s : State). count_by (λ b. b) s.active ≤ count_by (λ b. b) (state_of first).active) (sym q) h
+
+pub renumbered_stays : (first k n : Kernel) → n ≡ record k { store = n.store } → StayFixed first k → StayFixed first n
+renumbered_stays first k n e h l f = ap (λ (z : Kernel). fixed_value (entry_of l.var.0 z.stack)) e ∙ h l f
 
 pub renumbered_left : (k n : Kernel) → n ≡ record k { store = n.store } → state_of n ≡ state_of k → (k.okay ≡ true → HasNoUnits k) → n.okay ≡ true → HasNoUnits n
 renumbered_left k n e q h o = ap (λ (s : State). list_all (λ c. not (is_short c)) s.hard) q ∙ h (sym (ap (λ (z : Kernel). z.okay) e) ∙ o)

@@ -1,5 +1,6 @@
 pub mod Walking
 pub mod Fixing
+pub mod Settling
 pub mod Forgetting
 pub mod Keeping
 pub mod Noting

@@ -62,6 +62,10 @@ HasNoUnits k = list_all (λ c. not (is_short c)) (state_of k).hard ≡ true
 abbrev pub IsFixed : Kernel → OwnLit → Type 0
 IsFixed k l = fixed_value (entry_of l.var.0 k.stack) ≡ Some (not l.negative)
 
+-- what was fixed is so still
+abbrev pub StayFixed : Kernel → Kernel → Type 0
+StayFixed old new = (l : OwnLit) → IsFixed old l → IsFixed new l
+
 -- the literal of each hard clause of one literal was fixed
 abbrev pub FixesUnits : Kernel → Kernel → Type 0
 FixesUnits old new = (l : OwnLit) → list_any (is_unit (same_lit l)) (state_of old).hard ≡ true → IsFixed new l

@@ -6,6 +6,7 @@
 
 mod answer;
 mod learned;
+mod settle;
 mod solver;
 mod take;
 #[cfg(test)]

@@ -8,6 +8,7 @@ ghost use Rattle.state_laws.specs.Conditions.{IsContradicted};
 ghost use Rattle.state_laws.specs.Kernel.{state_of, Standing};
 ghost use Rattle.search.specs.Answers.{IsInnerModel, AreFailed};
 ghost use Rattle.analyze.specs.Counting.{saturated};
+ghost use Rattle.equiv_replace.specs.Binary.{HasNoCycles};
 ghost use Rattle.one_solver.specs.Learned.{HasFewLong};
 ghost use Rattle.one_solver.specs.Parts.{problem_in, SameCall, AssumesKnown};
 ghost use Rattle.one_solver.specs.Assuming.{IsMappedTo, AreContradicted};
@@ -15,9 +16,9 @@ ghost use Rattle.one_solver.specs.Units.{FixesUnits, HasNoUnits};
 ghost use Rattle.one_solver.specs.Steps.{IsUnderWay, StepsRight, IsTidy, IsRefuted, HasNoModel, IsVerdictOrNone, IsOverOrNone};
 
 use crate::answer::StepAnswer;
+use crate::settle::settle;
 use crate::take::take_formula;
 use crate::tidy::tidy;
-use crate::units::fix_units;
 use analyze::Tally;
 use assume_map::{Mapped, failed_lits, map_assumptions};
 use private_state::PrivateState;
@@ -97,8 +98,8 @@ impl OneSolver {
     }
 
     /// Starts a call under assumptions, whose variables are there: it made no conflict yet, and its
-    /// first interval comes next. Fixes the literals of the clauses of one literal until there is
-    /// none. The only error is want of memory.
+    /// first interval comes next. Fixes the literals of the clauses of one literal and replaces
+    /// equivalent variables until there are neither. The only error is want of memory.
     pub fn begin_call(&mut self, assumptions: &[Lit]) -> Result<(), NoMemory>
         requires few { length assumptions.now < 2 ^ 32 }
         requires known { IsTrue (names_known (problem_in self.old).vars (Clause assumptions.now)) }
@@ -107,6 +108,7 @@ impl OneSolver {
         ensures under_way { IsUnderWay self.new }
         ensures fixed { OnOk result (IsTrue self.new.kernel.okay → FixesUnits self.old.kernel self.new.kernel) }
         ensures left { OnOk result (IsTrue self.new.kernel.okay → HasNoUnits self.new.kernel) }
+        ensures cycles { OnOk result (IsTrue self.new.kernel.okay → HasNoCycles (state_of self.new.kernel).hard) }
         ensures problem { problem_in self.new ≡ problem_in self.old }
         ensures number { self.new.number ≡ self.old.number }
         ensures refuted { self.old.kernel.okay ≡ false → self.new.kernel.okay ≡ false }
@@ -115,7 +117,7 @@ impl OneSolver {
         self.interval = 0;
         self.assumptions.clear();
         self.assumptions = List::from_slice(self.alloc, assumptions)?;
-        fix_units(&mut self.state)
+        settle(self.alloc, &mut self.state)
     }
 
     /// Runs one interval of the call that `begin_call` started, where each earlier step of it

@@ -1,10 +1,10 @@
-ghost use Rattle.std.specs.Prelude.{◌≡◌, [], Some, None, IfSome, IfOk, OnOk, IsTrue};
+ghost use Rattle.std.specs.Prelude.{◌≡◌, ◌≤◌, [], Some, None, count_by, IfSome, IfOk, OnOk, IsTrue};
 ghost use Rattle.clause_store.specs.Store.{IsKept, Held, clause_at, is_live};
 ghost use Rattle.one_solver.specs.Basic.{IsBasic};
 ghost use Rattle.one_solver.specs.Learned.{numbers_in, NotesLong};
 ghost use Rattle.one_solver.specs.Fixing.{NotesTo};
-ghost use Rattle.state_laws.specs.Kernel.{TookSame};
-ghost use Rattle.one_solver.specs.Units.{IsLength, FindsShort, HasNoUnits, FixesUnits};
+ghost use Rattle.state_laws.specs.Kernel.{state_of, TookSame};
+ghost use Rattle.one_solver.specs.Units.{IsLength, FindsShort, HasNoUnits, StayFixed, FixesUnits};
 
 use crate::learned::note_long;
 use clause_store::ClauseStore;
@@ -41,6 +41,8 @@ pub fn fix_units(state: &mut PrivateState) -> Result<(), NoMemory>
     requires basic { IsBasic state.old }
     ensures basic { IsBasic state.new }
     ensures same { TookSame state.old state.new }
+    ensures fewer { count_by (λ b. b) (state_of state.new).active ≤ count_by (λ b. b) (state_of state.old).active }
+    ensures stays { StayFixed state.old state.new }
     ensures fixed { OnOk result (IsTrue state.new.okay → FixesUnits state.old state.new) }
     ensures left { OnOk result (IsTrue state.new.okay → HasNoUnits state.new) }
 {
@@ -62,6 +64,8 @@ pub fn fix_each(state: &mut PrivateState, ids: &mut Option<Vec<ClauseId>>) -> Re
     requires empty { IfSome (numbers_in ids.old) (λ numbers. numbers ≡ []) }
     ensures basic { IsBasic state.new }
     ensures same { TookSame state.old state.new }
+    ensures fewer { count_by (λ b. b) (state_of state.new).active ≤ count_by (λ b. b) (state_of state.old).active }
+    ensures stays { StayFixed state.old state.new }
     ensures fixed { OnOk result (IsTrue state.new.okay → FixesUnits state.old state.new) }
     ensures left { OnOk result (IsTrue state.new.okay → HasNoUnits state.new) }
     ensures noted { OnOk result (NotesLong state.new.store None ids.new) }

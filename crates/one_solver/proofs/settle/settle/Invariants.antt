@@ -1,0 +1,16 @@
+use Rattle.std.proofs.Common.{◌≡◌, true, count_by}
+use Rattle.state_laws.specs.Kernel.{state_of, TookSame}
+use Rattle.one_solver.specs.Basic.{IsBasic}
+use Rattle.one_solver.specs.Units.{HasNoUnits, FixesUnits}
+use Rattle.one_solver.proofs.settle.settle.Given as goal
+
+abbrev pub invariant-rounds : goal.invariant-rounds
+invariant-rounds l = record {
+  basic : IsBasic l.state;
+  same : TookSame l.fn.state l.state;
+  fixed : l.state.okay ≡ true → FixesUnits l.fn.state l.state;
+  left : l.state.okay ≡ true → HasNoUnits l.state;
+}
+
+abbrev pub decreases-rounds : goal.decreases-rounds
+decreases-rounds l = count_by (λ b. b) (state_of l.state).active
