@@ -5,4 +5,5 @@ pub mod Marked
 pub mod Resolving
 pub mod Unmarking
 pub mod Shortening
+pub mod Chaining
 pub mod Decisions

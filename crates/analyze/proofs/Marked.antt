@@ -77,7 +77,7 @@ or_known true b e f = absurd (true≢false f)
 or_known false b e f = e
 
 -- a variable that has a level is set
-level_is_set : (t : List Step) (v level : ℕ) → level_in t v ≡ Some level → set_in t v ≡ true
+pub level_is_set : (t : List Step) (v level : ℕ) → level_in t v ≡ Some level → set_in t v ≡ true
 level_is_set t v level e = set_in-step_in t v ∙ go (step_in t v) e
   where
     go : (o : Option Step) → option_map (λ (s : Step). s.level) o ≡ Some level → is_some o ≡ true

@@ -1,4 +1,4 @@
--- A clause without the literals that its others imply.
+-- A clause without the literals that its others imply along chains of reasons.
 use Rattle.std.proofs.Common.{◌≡◌, ◌<◌, ◌≤◌, ◌+◌, ℕ, Bool, true, false, cond, not, eqb, leb, ltb, ◌&&◌, ◌||◌, List, [], ◌∷◌, ◌++◌, length, filter, take, get_or, max, Option, Some, None, option_and_then, refl, sym, ap, subst, ◌∙◌, ⊎_elim, inl, inr, arith, append_assoc, eq-eqb, ltb-true, lt-ltb}
 use Rattle.std.proofs.lemmas.Bool.{and_parts, and_from, or_cases, or_left, or_right, eqb-true, leb-true, le-leb, false≢true, true≢false, both_ways, not-true, not_from_false, false_from_ne_true, cases_lt}
 use Rattle.std.proofs.lemmas.List.Folds.{list_all_more, list_any_kept, list_any_more}
@@ -20,7 +20,8 @@ use Rattle.analyze.specs.Falsity.{false_at, false_by, false_under}
 use Rattle.analyze.specs.LearnedClauses.{ClauseFollows, IsLearned, has_each_once}
 use Rattle.analyze.specs.Marking.{is_marked, is_root, level_or, IsGreatest}
 use Rattle.analyze.specs.Met.{lits_met}
-use Rattle.analyze.specs.Walks.{AtEnd, is_marked_or_root, leaves_marked_or_root, is_implied}
+use Rattle.analyze.specs.Walks.{AtEnd}
+use Rattle.analyze.specs.Chains.{either, is_settled, leaves_settled, AreImplied}
 use Rattle.analyze.specs.FalsityLaws.{only_level}
 use Rattle.analyze.proofs.Entailing.{same_lit_value, opposite_value, roots}
 use Rattle.analyze.proofs.Tracking.{level_all}
@@ -61,7 +62,7 @@ low_true w seen k s = not (seen s.lit.var.0 && ltb s.level k) || lit_value w s.l
 
 -- a settled literal that is false by older steps is false where the marked ones among these are true
 settled_false : (w : ℕ → Bool) (held : List Held) (t older : List Step) (seen : ℕ → Bool) (k n : ℕ) (q : InLit) → held_value w held ≡ true → shaped t ≡ true → reasoned held t ≡ true → n < k → list_all (λ s. leb s.level n) older ≡ true
-    → list_all (low_true w seen k) older ≡ true → is_marked_or_root seen t q ≡ true → false_in older q ≡ true → false_in t q ≡ true → lit_value w q ≡ false
+    → list_all (low_true w seen k) older ≡ true → is_settled seen t q ≡ true → false_in older q ≡ true → false_in t q ≡ true → lit_value w q ≡ false
 settled_false w held t older seen k n q v sound r h low i st f ft =
     ⊎_elim
     (λ (a : seen q.var.0 ≡ true).
@@ -82,53 +83,58 @@ settled_false w held t older seen k n q v sound r h low i st f ft =
 
 -- a literal whose reason is settled is true
 settled_true : (w : ℕ → Bool) (held : List Held) (t older : List Step) (s : Step) (seen : ℕ → Bool) (k : ℕ) (o : Option ClauseId) → held_value w held ≡ true → shaped t ≡ true → reasoned held t ≡ true → Split held t s older → s.level < k
-    → list_all (low_true w seen k) older ≡ true → leaves_marked_or_root held t seen o ≡ true → has_reason held older s o ≡ true → lit_value w s.lit ≡ true
+    → list_all (low_true w seen k) older ≡ true → leaves_settled held t seen o ≡ true → has_reason held older s o ≡ true → lit_value w s.lit ≡ true
 settled_true w held t older s seen k None v sound r x l i st h = absurd (false≢true st)
 settled_true w held t older s seen k (Some id) v sound r x l i st h =
     let e : (shaped_step older s ≡ true) × (shaped older ≡ true) = and_parts _ _ x.is_shaped in
     let u : level_of older ≤ s.level = level_up older s e.0 in
-    named_all (λ (h : Held). clause_value (lit_value w) h.lits) (λ c. gives older s.lit c && list_all (is_marked_or_root seen t) c) held id (lit_value w s.lit ≡ true) (names_both held id (gives older s.lit) (list_all (is_marked_or_root seen t)) h st) v
+    named_all (λ (h : Held). clause_value (lit_value w) h.lits) (λ c. gives older s.lit c && list_all (is_settled seen t) c) held id (lit_value w s.lit ≡ true) (names_both held id (gives older s.lit) (list_all (is_settled seen t)) h st) v
     (λ h a g.
-    let p : (gives older s.lit h.lits ≡ true) × (list_all (is_marked_or_root seen t) h.lits ≡ true) = and_parts _ _ g in
+    let p : (gives older s.lit h.lits ≡ true) × (list_all (is_settled seen t) h.lits ≡ true) = and_parts _ _ g in
     let q : (list_any (same_lit s.lit) h.lits ≡ true) × (list_all (λ m. same_lit s.lit m || false_in older m) h.lits ≡ true) = and_parts _ _ p.0 in
-    all_or_any (λ (m : InLit). (same_lit s.lit m || false_in older m) && is_marked_or_root seen t m) (lit_value w) (lit_value w s.lit ≡ true) h.lits
-    (both_all (λ (m : InLit). same_lit s.lit m || false_in older m) (is_marked_or_root seen t) (λ (m : InLit). (same_lit s.lit m || false_in older m) && is_marked_or_root seen t m) (λ m y z. and_from _ _ y z) h.lits q.1 p.1) a
-    (λ m y z. let j : ((same_lit s.lit m || false_in older m) ≡ true) × (is_marked_or_root seen t m ≡ true) = and_parts _ _ y in
+    all_or_any (λ (m : InLit). (same_lit s.lit m || false_in older m) && is_settled seen t m) (lit_value w) (lit_value w s.lit ≡ true) h.lits
+    (both_all (λ (m : InLit). same_lit s.lit m || false_in older m) (is_settled seen t) (λ (m : InLit). (same_lit s.lit m || false_in older m) && is_settled seen t m) (λ m y z. and_from _ _ y z) h.lits q.1 p.1) a
+    (λ m y z. let j : ((same_lit s.lit m || false_in older m) ≡ true) × (is_settled seen t m ≡ true) = and_parts _ _ y in
     ⊎_elim (λ (b : same_lit s.lit m ≡ true). same_lit_value w s.lit m b ∙ z)
     (λ (b : false_in older m ≡ true).
     absurd (both_ways _ (settled_false w held t older seen k s.level m v sound r l (levels_low older s.level e.1 u) i j.1 b (x.found (λ c. opposite c.lit m) (or_right _ _ b))) z))
     (or_cases _ _ j.0)))
 
--- where no literal that is kept is true, the marked steps below the level are
-low_all : (w : ℕ → Bool) (held : List Held) (t gone rest : List Step) (seen : ℕ → Bool) (k : ℕ) (others : List InLit) → held_value w held ≡ true → shaped t ≡ true → reasoned held t ≡ true
-    → list_all (λ s. not (seen s.lit.var.0) || (eqb s.level k || list_any (opposite s.lit) others)) t ≡ true → list_all (λ l. is_implied held t seen l || not (lit_value w l)) others ≡ true → t ≡ gone ++ rest → list_all (low_true w seen k) rest ≡ true
-low_all w held t gone [] seen k others v sound r n a p = refl
-low_all w held t gone (s ∷ older) seen k others v sound r n a p =
+-- where no literal that is kept is true, the marked and the implied steps below the level are
+pub low_all : (w : ℕ → Bool) (held : List Held) (t gone rest : List Step) (seen implied : ℕ → Bool) (k : ℕ) (others : List InLit) → held_value w held ≡ true → shaped t ≡ true → reasoned held t ≡ true → AreImplied held t seen implied
+    → list_all (λ s. not (seen s.lit.var.0) || (eqb s.level k || list_any (opposite s.lit) others)) t ≡ true → list_all (λ l. implied l.var.0 || not (lit_value w l)) others ≡ true → t ≡ gone ++ rest → list_all (low_true w (either seen implied) k) rest ≡ true
+low_all w held t gone [] seen implied k others v sound r j n a p = refl
+low_all w held t gone (s ∷ older) seen implied k others v sound r j n a p =
     let x : Split held t s older = split_parts held t gone older s p sound r in
-    let i : list_all (low_true w seen k) older ≡ true = low_all w held t (gone ++ s ∷ []) older seen k others v sound r n a (p ∙ sym (append_assoc gone (s ∷ []) older)) in
+    let i : list_all (low_true w (either seen implied) k) older ≡ true = low_all w held t (gone ++ s ∷ []) older seen implied k others v sound r j n a (p ∙ sym (append_assoc gone (s ∷ []) older)) in
     let h : ((not (seen s.lit.var.0) || (eqb s.level k || list_any (opposite s.lit) others)) ≡ true) × (list_all (λ q. not (seen q.lit.var.0) || (eqb q.level k || list_any (opposite q.lit) others)) older ≡ true) =
     and_parts _ _ (x.within (λ q. not (seen q.lit.var.0) || (eqb q.level k || list_any (opposite q.lit) others)) n) in
-    and_from _ _ (go (seen s.lit.var.0 && ltb s.level k) refl x i h.0) i
+    and_from _ _ (go (either seen implied s.lit.var.0 && ltb s.level k) refl x i h.0) i
   where
-    one : Split held t s older → list_all (low_true w seen k) older ≡ true → s.level < k → (m : InLit) → opposite s.lit m ≡ true → (is_implied held t seen m || not (lit_value w m)) ≡ true → lit_value w s.lit ≡ true
-    one x i l m o b =
-        ⊎_elim
-        (λ (c : is_implied held t seen m ≡ true).
-        let d : leaves_marked_or_root held t seen s.reason ≡ true = subst (λ (z : Option ClauseId). leaves_marked_or_root held t seen z ≡ true) (ap (reason_in t) (sym (opposite_var s.lit m o)) ∙ x.reason) c in
+    by_reason : Split held t s older → list_all (low_true w (either seen implied) k) older ≡ true → s.level < k → implied s.lit.var.0 ≡ true → lit_value w s.lit ≡ true
+    by_reason x i l c =
+        let d : leaves_settled held t (either seen implied) s.reason ≡ true = subst (λ (z : Option ClauseId). leaves_settled held t (either seen implied) z ≡ true) x.reason (j s.lit.var.0 c) in
         let q : (has_reason held older s s.reason ≡ true) × (reasoned held older ≡ true) = and_parts _ _ x.is_reasoned in
-        settled_true w held t older s seen k s.reason v sound r x l i d q.0)
+        settled_true w held t older s (either seen implied) k s.reason v sound r x l i d q.0
+
+    one : Split held t s older → list_all (low_true w (either seen implied) k) older ≡ true → s.level < k → (m : InLit) → opposite s.lit m ≡ true → (implied m.var.0 || not (lit_value w m)) ≡ true → lit_value w s.lit ≡ true
+    one x i l m o b =
+        ⊎_elim (λ (c : implied m.var.0 ≡ true). by_reason x i l (ap implied (opposite_var s.lit m o) ∙ c))
         (λ (c : not (lit_value w m) ≡ true). twice _ (ap not (sym (opposite_value w s.lit m o)) ∙ c))
         (or_cases _ _ b)
 
-    go : (b : Bool) → (seen s.lit.var.0 && ltb s.level k) ≡ b → Split held t s older → list_all (low_true w seen k) older ≡ true → (not (seen s.lit.var.0) || (eqb s.level k || list_any (opposite s.lit) others)) ≡ true → (not b || lit_value w s.lit) ≡ true
+    go : (b : Bool) → (either seen implied s.lit.var.0 && ltb s.level k) ≡ b → Split held t s older → list_all (low_true w (either seen implied) k) older ≡ true → (not (seen s.lit.var.0) || (eqb s.level k || list_any (opposite s.lit) others)) ≡ true → (not b || lit_value w s.lit) ≡ true
     go false f x i h = refl
     go true f x i h =
-        let c : (seen s.lit.var.0 ≡ true) × (ltb s.level k ≡ true) = and_parts _ _ f in
+        let c : (either seen implied s.lit.var.0 ≡ true) × (ltb s.level k ≡ true) = and_parts _ _ f in
         let l : s.level < k = ltb-true _ _ c.1 in
-        let d : (eqb s.level k || list_any (opposite s.lit) others) ≡ true = holds _ _ h c.0 in
+        ⊎_elim
+        (λ (e : seen s.lit.var.0 ≡ true).
         ⊎_elim (λ (y : eqb s.level k ≡ true). absurd (let z : s.level ≡ k = eqb-true _ _ y in omega arith))
-        (λ (y : list_any (opposite s.lit) others ≡ true). all_or_any (λ (m : InLit). is_implied held t seen m || not (lit_value w m)) (opposite s.lit) (lit_value w s.lit ≡ true) others a y (λ m b o. one x i l m o b))
-        (or_cases _ _ d)
+        (λ (y : list_any (opposite s.lit) others ≡ true). all_or_any (λ (m : InLit). implied m.var.0 || not (lit_value w m)) (opposite s.lit) (lit_value w s.lit ≡ true) others a y (λ m b o. one x i l m o b))
+        (or_cases _ _ (holds _ _ h e)))
+        (λ (e : implied s.lit.var.0 ≡ true). by_reason x i l e)
+        (or_cases _ _ c.0)
 
 none_kept : (p q : InLit → Bool) (xs : List InLit) → list_any q (filter (λ l. not (p l)) xs) ≡ false → list_all (λ l. p l || not (q l)) xs ≡ true
 none_kept p q [] e = refl
@@ -141,21 +147,21 @@ none_kept p q (x ∷ xs) e = go (p x) (q x) refl refl e (λ (f : list_any q (fil
     go false false f g h r = r (sym (ap (λ (z : Bool). z || list_any q (filter (λ l. not (p l)) xs)) g) ∙ h)
 
 -- the clause follows without the literals that are implied
-pub shortened : (held : List Held) (t : List Step) (seen : ℕ → Bool) (k : ℕ) (first : InLit) (others : List InLit) → shaped t ≡ true → reasoned held t ≡ true
+pub shortened : (held : List Held) (t : List Step) (seen implied : ℕ → Bool) (k : ℕ) (first : InLit) (others : List InLit) → shaped t ≡ true → reasoned held t ≡ true → AreImplied held t seen implied
     → list_all (λ s. not (seen s.lit.var.0) || (eqb s.level k || list_any (opposite s.lit) others)) t ≡ true → list_all (false_under t k) others ≡ true → list_all (λ l. seen l.var.0) others ≡ true → ClauseFollows held (first ∷ others)
-    → ClauseFollows held (first ∷ filter (λ l. not (is_implied held t seen l)) others)
-shortened held t seen k first others sound r n under too follows w v = go (clause_value (lit_value w) (filter (λ l. not (is_implied held t seen l)) others)) refl
+    → ClauseFollows held (first ∷ filter (λ l. not (implied l.var.0)) others)
+shortened held t seen implied k first others sound r j n under too follows w v = go (clause_value (lit_value w) (filter (λ l. not (implied l.var.0)) others)) refl
   where
-    others_false : list_any (lit_value w) (filter (λ l. not (is_implied held t seen l)) others) ≡ false → list_any (lit_value w) others ≡ true → ⊥
+    others_false : list_any (lit_value w) (filter (λ l. not (implied l.var.0)) others) ≡ false → list_any (lit_value w) others ≡ true → ⊥
     others_false f a =
-        let low : list_all (low_true w seen k) t ≡ true = low_all w held t [] t seen k others v sound r n (none_kept (is_implied held t seen) (lit_value w) others f) refl in
+        let low : list_all (low_true w (either seen implied) k) t ≡ true = low_all w held t [] t seen implied k others v sound r j n (none_kept (λ (l : InLit). implied l.var.0) (lit_value w) others f) refl in
         all_or_any (λ (l : InLit). false_under t k l && seen l.var.0) (lit_value w) ⊥ others (both_all (false_under t k) (λ (l : InLit). seen l.var.0) (λ (l : InLit). false_under t k l && seen l.var.0) (λ l x y. and_from _ _ x y) others under too) a
         (λ l x y. let p : (false_under t k l ≡ true) × (seen l.var.0 ≡ true) = and_parts _ _ x in
-        all_or_any (low_true w seen k) (λ (s : Step). opposite s.lit l && ltb s.level k) ⊥ t low p.0
+        all_or_any (low_true w (either seen implied) k) (λ (s : Step). opposite s.lit l && ltb s.level k) ⊥ t low p.0
         (λ s b c. let q : (opposite s.lit l ≡ true) × (ltb s.level k ≡ true) = and_parts _ _ c in
-        both_ways _ (opposite_value w s.lit l q.0 ∙ ap not (holds (seen s.lit.var.0 && ltb s.level k) (lit_value w s.lit) b (and_from _ _ (ap seen (opposite_var s.lit l q.0) ∙ p.1) q.1))) y))
+        both_ways _ (opposite_value w s.lit l q.0 ∙ ap not (holds (either seen implied s.lit.var.0 && ltb s.level k) (lit_value w s.lit) b (and_from _ _ (or_left _ _ (ap seen (opposite_var s.lit l q.0) ∙ p.1)) q.1))) y))
 
-    go : (b : Bool) → clause_value (lit_value w) (filter (λ l. not (is_implied held t seen l)) others) ≡ b → (lit_value w first || b) ≡ true
+    go : (b : Bool) → clause_value (lit_value w) (filter (λ l. not (implied l.var.0)) others) ≡ b → (lit_value w first || b) ≡ true
     go true f = or_right _ _ refl
     go false f = ⊎_elim (λ (a : lit_value w first ≡ true). or_left _ _ a) (λ (a : list_any (lit_value w) others ≡ true). absurd (others_false f a)) (or_cases _ _ (follows w v))
 
@@ -201,14 +207,14 @@ once_filter p (x ∷ xs) e =
     go false f r = r
 
 -- the clause at the end of the walk, with its level, is learned
-pub learned : (held : List Held) (trail : Assignment) (walk : Walk) (first : InLit) (lits kept : List InLit) (back : ℕ) → reasoned held trail.steps ≡ true → AtEnd held trail walk first
-    → kept ≡ filter (λ l. not (is_implied held trail.steps (is_marked walk.marks) l)) walk.others.items → lits ≡ first ∷ kept → IsGreatest trail.steps kept back → IsLearned held trail.steps lits back
-learned held trail walk first lits kept back r x e p g =
+pub learned : (held : List Held) (trail : Assignment) (walk : Walk) (implied : ℕ → Bool) (first : InLit) (lits kept : List InLit) (back : ℕ) → reasoned held trail.steps ≡ true → AtEnd held trail walk first → AreImplied held trail.steps (is_marked walk.marks) implied
+    → kept ≡ filter (λ l. not (implied l.var.0)) walk.others.items → lits ≡ first ∷ kept → IsGreatest trail.steps kept back → IsLearned held trail.steps lits back
+learned held trail walk implied first lits kept back r x j e p g =
     let t : List Step = trail.steps in
     let sound : shaped trail.steps ≡ true = x.stands.kept.sound in
     let under : list_all (false_under trail.steps (level_of trail.steps)) kept ≡ true =
     subst (λ (z : List InLit). list_all (false_under trail.steps (level_of trail.steps)) z ≡ true) (sym e)
-    (all_filter (false_under trail.steps (level_of trail.steps)) (λ (l : InLit). not (is_implied held trail.steps (is_marked walk.marks) l)) (false_under trail.steps (level_of trail.steps)) (λ l a b. a) walk.others.items x.stands.tracks.under) in
+    (all_filter (false_under trail.steps (level_of trail.steps)) (λ (l : InLit). not (implied l.var.0)) (false_under trail.steps (level_of trail.steps)) (λ l a b. a) walk.others.items x.stands.tracks.under) in
     record {
       first = first;
       others = kept;
@@ -216,7 +222,7 @@ learned held trail walk first lits kept back r x e p g =
       follows =
           subst (λ (z : List InLit). ClauseFollows held z) (sym p)
           (subst (λ (z : List InLit). ClauseFollows held (first ∷ z)) (sym e)
-          (shortened held trail.steps (is_marked walk.marks) (level_of trail.steps) first walk.others.items sound r x.stands.tracks.named x.stands.tracks.under x.stands.tracks.seen_too x.follows));
+          (shortened held trail.steps (is_marked walk.marks) implied (level_of trail.steps) first walk.others.items sound r j x.stands.tracks.named x.stands.tracks.under x.stands.tracks.seen_too x.follows));
       first_false = x.first_false;
       others_false =
           both_all (false_under trail.steps (level_of trail.steps)) (λ (l : InLit). leb (level_or trail.steps l.var.0) back) (false_by trail.steps back)
@@ -244,17 +250,17 @@ learned held trail walk first lits kept back r x e p g =
           let i : s.level < level_of trail.steps = ltb-true _ _ q.1 in
           let j : s.level ≡ level_of trail.steps = eqb-true _ _ (holds _ _ d (eq-eqb _ _ (opposite_var s.lit l q.0 ∙ sym (eqb-true _ _ c)))) in
           absurd (omega arith))))))
-          (subst (λ (z : List InLit). has_each_once z ≡ true) (sym e) (once_filter (λ l. not (is_implied held trail.steps (is_marked walk.marks) l)) walk.others.items x.stands.tracks.once)));
+          (subst (λ (z : List InLit). has_each_once z ≡ true) (sym e) (once_filter (λ l. not (implied l.var.0)) walk.others.items x.stands.tracks.once)));
     }
 
 -- and the variables of that clause are marked
-pub learned_met : (held : List Held) (trail : Assignment) (walk : Walk) (first : InLit) (lits kept : List InLit) → AtEnd held trail walk first
-    → kept ≡ filter (λ l. not (is_implied held trail.steps (is_marked walk.marks) l)) walk.others.items → lits ≡ first ∷ kept → lits_met walk.marks.vars lits ≡ true
-learned_met held trail walk first lits kept x e p =
+pub learned_met : (held : List Held) (trail : Assignment) (walk : Walk) (implied : ℕ → Bool) (first : InLit) (lits kept : List InLit) → AtEnd held trail walk first
+    → kept ≡ filter (λ l. not (implied l.var.0)) walk.others.items → lits ≡ first ∷ kept → lits_met walk.marks.vars lits ≡ true
+learned_met held trail walk implied first lits kept x e p =
     subst (λ (z : List InLit). lits_met walk.marks.vars z ≡ true) (sym p)
     (and_from _ _ x.first_met
     (subst (λ (z : List InLit). lits_met walk.marks.vars z ≡ true) (sym e)
-    (all_filter (λ (l : InLit). is_marked walk.marks l.var.0) (λ (l : InLit). not (is_implied held trail.steps (is_marked walk.marks) l)) (λ (l : InLit). is_marked walk.marks l.var.0) (λ l a b. a) walk.others.items x.stands.tracks.seen_too)))
+    (all_filter (λ (l : InLit). is_marked walk.marks l.var.0) (λ (l : InLit). not (implied l.var.0)) (λ (l : InLit). is_marked walk.marks l.var.0) (λ l a b. a) walk.others.items x.stands.tracks.seen_too)))
 
 -- no literal has level 0 as the greatest
 pub greatest_none : (t : List Step) → IsGreatest t [] 0

@@ -12,3 +12,4 @@ pub mod Deciding
 pub mod FalsityLaws
 pub mod QuietLaws
 pub mod AddedLaws
+pub mod Chains

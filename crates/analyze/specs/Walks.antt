@@ -1,17 +1,16 @@
 -- The walk back over a trail from a conflict: what is marked, and what follows of it.
-use Rattle.std.specs.Prelude.{◌≡◌, ◌<◌, ◌≤◌, ◌+◌, ◌-◌, ℕ, ◌==◌, Bool, true, false, not, ◌&&◌, ◌||◌, if◌then◌else◌, List, [], ◌∷◌, length, drop, Option, Some, None}
+use Rattle.std.specs.Prelude.{◌≡◌, ◌<◌, ◌≤◌, ◌+◌, ◌-◌, ℕ, ◌==◌, Bool, true, not, ◌&&◌, ◌||◌, if◌then◌else◌, List, [], ◌∷◌, length, drop}
 use Rattle.std.specs.List.{list_any, list_all}
 use Rattle.sat_lits.specs.InLits.{opposite}
 use Rattle.sat_lits.specs.declared.literal.InLit.{InLit}
-use Rattle.sat_lits.specs.declared.literal.ClauseId.{ClauseId}
 use Rattle.trail.specs.declared.trail.Step.{Step}
-use Rattle.trail.specs.Trail.{Assignment, IsKept, false_in, level_of, reason_in}
+use Rattle.trail.specs.Trail.{Assignment, IsKept, false_in, level_of}
 use Rattle.clause_store.specs.Store.{Held}
-use Rattle.propagate.specs.Reasons.{names, lit_value, held_value}
+use Rattle.propagate.specs.Reasons.{lit_value, held_value}
 use Rattle.analyze.specs.declared.walk.Walk.{Walk}
 use Rattle.analyze.specs.Falsity.{false_at, false_under}
 use Rattle.analyze.specs.LearnedClauses.{ClauseFollows, has_each_once}
-use Rattle.analyze.specs.Marking.{is_marked, is_root}
+use Rattle.analyze.specs.Marking.{is_marked}
 use Rattle.analyze.specs.Met.{are_set}
 
 -- the oldest steps, so many as are left
@@ -92,16 +91,3 @@ pub record AtEnd (held : List Held) (trail : Assignment) (walk : Walk) (first : 
   pub first_false : false_at trail.steps (level_of trail.steps) first ≡ true
   pub first_met : is_marked walk.marks first.var.0 ≡ true
   pub follows : ClauseFollows held (first ∷ walk.others.items)
-
--- whether a variable is marked or of level 0
-abbrev pub is_marked_or_root : (ℕ → Bool) → List Step → InLit → Bool
-is_marked_or_root seen steps l = seen l.var.0 || is_root steps l.var.0
-
--- whether a reason has no literal that is neither
-abbrev pub leaves_marked_or_root : List Held → List Step → (ℕ → Bool) → Option ClauseId → Bool
-leaves_marked_or_root held steps seen None = false
-leaves_marked_or_root held steps seen (Some id) = names held id (list_all (is_marked_or_root seen steps))
-
--- whether the others of a clause imply a literal of it: its variable has a reason, and what that holds is marked or of level 0
-abbrev pub is_implied : List Held → List Step → (ℕ → Bool) → InLit → Bool
-is_implied held steps seen l = leaves_marked_or_root held steps seen (reason_in steps l.var.0)

@@ -10,6 +10,7 @@ ghost use Rattle.analyze.specs.FinalSets.{IsFinalSet};
 ghost use Rattle.analyze.specs.Met.{are_set, lits_met};
 ghost use Rattle.analyze.specs.Counting.{saturated};
 
+use crate::chains::Chains;
 use crate::deciding::deciding_levels;
 use crate::tally::Tally;
 use crate::walk::Walk;
@@ -34,6 +35,7 @@ pub struct Learned {
 #[derive(Debug, Drop)]
 pub struct Analyzer {
     walk: Walk,
+    chains: Chains,
 }
 
 impl Model for Analyzer {
@@ -54,6 +56,7 @@ impl Analyzer {
     {
         Analyzer {
             walk: Walk::new(alloc),
+            chains: Chains::new(alloc),
         }
     }
 
@@ -62,8 +65,9 @@ impl Analyzer {
     ///
     /// The false clause is resolved with the reasons of its literals, from the newest to the oldest,
     /// until one literal of the present level is left (Marques-Silva and Sakallah, 1996; Zhang,
-    /// Madigan, Moskewicz and Malik, 2001), and literals whose reasons lie within it are left out
-    /// (Sörensson and Biere, 2009). The only error is want of memory, and the tally stays then.
+    /// Madigan, Moskewicz and Malik, 2001), and literals that the others imply along whole chains of
+    /// reasons are left out (Sörensson and Biere, 2009). The only error is want of memory, and the
+    /// tally stays then.
     pub fn learn(
         &mut self,
         store: &ClauseStore,
@@ -87,7 +91,7 @@ impl Analyzer {
         self.walk.start(trail)?;
         self.walk.mark_all(trail, store.lits(conflict))?;
         let first = self.walk.first_uip(store, trail)?;
-        let learned = self.walk.clause(store, trail, first)?;
+        let learned = self.chains.shorten(&self.walk, store, trail, first)?;
         tally.raise();
         Ok(learned)
     }

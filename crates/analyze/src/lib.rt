@@ -2,6 +2,7 @@
 #![tactic(auto)]
 
 mod analyzer;
+mod chains;
 mod deciding;
 pub mod laws;
 mod marks;

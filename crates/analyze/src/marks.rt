@@ -1,8 +1,8 @@
-ghost use Rattle.std.specs.Prelude.{◌≡◌, ◌<◌, ◌≤◌, ◌∷◌, ◌++◌, ◌||◌, [], IfOk, OnOk};
+ghost use Rattle.std.specs.Prelude.{◌≡◌, ◌<◌, ◌≤◌, ◌∷◌, ◌++◌, [], IfOk, OnOk};
 ghost use Rattle.trail.specs.Trail.{IsKept};
-ghost use Rattle.analyze.specs.Marking.{is_marked, is_root, IsFresh, MarksNew};
+ghost use Rattle.analyze.specs.Marking.{is_marked, IsFresh, MarksNew};
 
-use sat_lits::{InLit, Inner, NoMemory};
+use sat_lits::{Inner, NoMemory};
 use std::alloc::Global;
 use std::marker::Model;
 use trail::Trail;
@@ -70,13 +70,6 @@ impl Marks {
     {
         let place = var.0 as usize;
         place < self.table.len() && self.table[place]
-    }
-
-    /// Whether the variable of a literal is marked, or of level 0.
-    pub fn leaves_marked_or_root(&self, trail: &Trail, lit: InLit) -> bool
-        ensures { result ≡ (is_marked self.now lit.var.0 || is_root trail.now.steps lit.var.0) }
-    {
-        self.contains(lit.var) || trail.level_of(lit.var).unwrap_or(0) == 0
     }
 
     /// The marked variables, each once.

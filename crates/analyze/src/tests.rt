@@ -199,22 +199,27 @@ fn the_first_uip_of_three_levels_is_found(rt: HostRuntime) -> Result<(), Fail> {
 }
 
 #[test]
-fn an_implied_literal_is_left_out(rt: HostRuntime) -> Result<(), Fail> {
+fn a_literal_that_a_chain_of_reasons_implies_is_left_out(rt: HostRuntime) -> Result<(), Fail> {
     let mut store = ClauseStore::new(rt.alloc());
-    store.add(&[no(0), yes(1)], false)?;
+    store.add(&[no(0), yes(4)], false)?;
+    store.add(&[no(4), yes(1)], false)?;
     store.add(&[no(2), no(1), yes(3)], false)?;
     store.add(&[no(2), no(0), no(3)], false)?;
     let mut watches = Watches::new(rt.alloc());
-    watches.prepare(&store, 4)?;
+    watches.prepare(&store, 5)?;
     let mut trail = Trail::new(rt.alloc());
-    trail.reserve(4)?;
+    trail.reserve(5)?;
     let conflict = decide_all(&store, &mut watches, &mut trail, &[yes(0), yes(2)])?;
     let mut tally = Tally::new();
     let mut analyzer = Analyzer::new(rt.alloc());
     let learned = learn(&mut analyzer, &store, &trail, conflict, &mut tally)?;
     assert_eq!(rt; learned.lits.as_slice(), [no(2), no(0)].as_slice());
     assert_eq!(rt; learned.back, 1);
-    assert_eq!(rt; analyzer.met().len(), 4, "the one that is left out too");
+    assert_eq!(rt;
+        analyzer.met().len(),
+        4,
+        "what is left out too, but not the way there"
+    );
     Ok(())
 }
 

@@ -1,15 +1,11 @@
-ghost use Rattle.std.specs.Prelude.{◌≡◌, ◌<◌, ◌∷◌, [], filter, not, IfOk, OnOk, IsTrue};
+ghost use Rattle.std.specs.Prelude.{◌≡◌, ◌<◌, ◌∷◌, [], IfOk, OnOk, IsTrue};
 ghost use Rattle.std.specs.List.{list_all};
 ghost use Rattle.trail.specs.Trail.{level_of};
 ghost use Rattle.propagate.specs.Reasons.{reasoned};
-ghost use Rattle.analyze.specs.LearnedClauses.{IsLearned};
-ghost use Rattle.analyze.specs.Marking.{is_marked, IsGreatest};
-ghost use Rattle.analyze.specs.Met.{lits_met};
 
-use crate::analyzer::Learned;
 use crate::marks::Marks;
 use clause_store::ClauseStore;
-use sat_lits::{InLit, List, NoMemory};
+use sat_lits::{InLit, NoMemory};
 use smallvec::SmallVec;
 use std::alloc::Global;
 use trail::Trail;
@@ -32,7 +28,7 @@ pub struct Walk {
 }
 
 impl Walk {
-    ghost use Rattle.analyze.specs.Walks.{IsWalkOn, IsStart, MarkedAll, AtWalk, IsTaken, AtEnd, may_mark, is_implied};
+    ghost use Rattle.analyze.specs.Walks.{IsWalkOn, IsStart, MarkedAll, AtWalk, IsTaken, AtEnd, may_mark};
 
     /// It takes no memory.
     pub fn new(alloc: Global) -> Walk
@@ -122,67 +118,4 @@ impl Walk {
             None => unreachable!(),
         }
     }
-
-    /// The clause at the end of the walk, without the literals that its others imply.
-    pub fn clause(
-        &self,
-        store: &ClauseStore,
-        trail: &Trail,
-        first: InLit,
-    ) -> Result<Learned, NoMemory>
-        requires reasoned { IsTrue (reasoned store.now.held trail.now.steps) }
-        requires end { AtEnd store.now.held trail.now self.now first }
-        ensures learned { IfOk result (λ learned. IsLearned store.now.held trail.now.steps learned.lits learned.back) }
-        ensures met { IfOk result (λ learned. IsTrue (lits_met self.now.marks.vars learned.lits)) }
-    {
-        let kept = self.kept(store, trail)?;
-        let mut lits = List::new(self.marks.allocator());
-        lits.push(first)?;
-        lits.extend_from_slice(kept.as_slice())?;
-        Ok(Learned {
-            lits,
-            back: greatest_level(trail, kept.as_slice()),
-        })
-    }
-
-    /// The literals of lower levels that the others do not imply.
-    fn kept(&self, store: &ClauseStore, trail: &Trail) -> Result<SmallVec<InLit, 8>, NoMemory>
-        requires { IsTrue (reasoned store.now.held trail.now.steps) }
-        ensures { IfOk result (λ kept. kept.items ≡ filter (λ l. not (is_implied store.now.held trail.now.steps (is_marked self.now.marks) l)) self.now.others.items) }
-    {
-        let mut kept = SmallVec::new(self.marks.allocator());
-        for lit in self.others.as_slice() {
-            if !self.is_implied(store, trail, *lit) {
-                kept.push(*lit)?;
-            }
-        }
-        Ok(kept)
-    }
-
-    /// Whether every literal of the reason of a literal is marked or of level 0.
-    fn is_implied(&self, store: &ClauseStore, trail: &Trail, lit: InLit) -> bool
-        requires { IsTrue (reasoned store.now.held trail.now.steps) }
-        ensures { result ≡ is_implied store.now.held trail.now.steps (is_marked self.now.marks) lit }
-    {
-        let Some(id) = trail.reason_of(lit.var) else {
-            return false;
-        };
-        for other in store.lits(id) {
-            if !self.marks.leaves_marked_or_root(trail, *other) {
-                return false;
-            }
-        }
-        true
-    }
-}
-
-/// The greatest level of literals, or 0 where there are none.
-fn greatest_level(trail: &Trail, lits: &[InLit]) -> u32
-    ensures { IsGreatest trail.now.steps lits.now result }
-{
-    let mut greatest: u32 = 0;
-    for lit in lits {
-        greatest = greatest.max(trail.level_of(lit.var).unwrap_or(0));
-    }
-    greatest
 }

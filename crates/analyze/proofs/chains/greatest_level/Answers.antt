@@ -1,7 +1,7 @@
 use Rattle.std.proofs.Common.{◌∙◌, ◌+◌, ℕ, ap, sym, subst, unwrap_or, false, take}
 use Rattle.analyze.specs.Marking.{IsGreatest}
 use Rattle.analyze.proofs.Shortening.{greatest_more}
-use Rattle.analyze.proofs.walk.greatest_level.Goals as goal
+use Rattle.analyze.proofs.chains.greatest_level.Goals as goal
 
 pub loop-lit-preserved : goal.loop-lit-preserved
 loop-lit-preserved c =
