@@ -24,7 +24,7 @@ use crate::values::{outer_values, own_values};
 use clause_store::ClauseStore;
 use indexed_store::{IndexedStore, ShortId};
 use parity_forms::{add_made, made_by, made_of, own_pieces};
-use rebuild_stack::{Entry, RebuildStack};
+use rebuild_stack::{Entry, RebuildStack, Root};
 use removed_vars::{
     RemovedVars, Status, add_all, add_hard, collect, drop_all, in_lits, own_form, var_of,
 };
@@ -126,6 +126,13 @@ impl PrivateState {
         ensures end { IsEnd (status_of (entry_of result.var.0 self.now.stack)) }
     {
         self.removed.last(lit)
+    }
+
+    /// What a literal comes to along the stack, in as many steps as there are replacements on its way.
+    pub fn root(&self, lit: OwnLit) -> Root
+        ensures { result ≡ root self.now.stack lit }
+    {
+        self.removed.root(lit)
     }
 
     /// The numbers of the variables.

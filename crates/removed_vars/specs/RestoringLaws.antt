@@ -41,9 +41,16 @@ put_in_all_agree test r q same (c ∷ cs) e =
     let p : (list_all test c ≡ true) × (list_all (list_all test) cs ≡ true) = and_parts _ _ e in
     ap₂ {C = List (List OwnLit)} cons_option (fold_agree test r q same (Some []) c p.0) (put_in_all_agree test r q same cs p.1)
 
--- along all entries but its own, a literal of an entry's clauses comes to what it comes to along the newer ones
-pub but_newer : (s : State) (at : ℕ) (v : Own) (cs : List (List OwnLit)) → slice_get s.stack at ≡ Some (Gone v cs) → IsPlaced s → put_in_all (root_but v.0 s.stack) cs ≡ put_in_all (root (drop (suc at) s.stack)) cs
-but_newer s at v cs entry h = put_in_all_agree here (root_but v.0 s.stack) (root newer) same cs passes
+-- a test that all literals of an entry's clauses pass; no older entry names a literal that passes, and along all entries but its own it comes to what it comes to along the newer ones
+pub record LooksNewer (s : State) (at : ℕ) (v : Own) (cs : List (List OwnLit)) : Type 0 where
+  pub test : OwnLit → Bool
+  pub passes : list_all (list_all test) cs ≡ true
+  pub older : (l : OwnLit) → test l ≡ true → list_any (names l.var.0) (take at s.stack) ≡ false
+  pub roots : (l : OwnLit) → test l ≡ true → root_but v.0 s.stack l ≡ root (drop (suc at) s.stack) l
+
+-- the literals of an entry's clauses are of its own variable, active, or named by newer entries
+pub looks_newer : (s : State) (at : ℕ) (v : Own) (cs : List (List OwnLit)) → slice_get s.stack at ≡ Some (Gone v cs) → IsPlaced s → LooksNewer s at v cs
+looks_newer s at v cs entry h = record { test = here; passes = passes; older = not_older; roots = same }
   where
     older : List Entry
     older = take at s.stack
@@ -95,6 +102,12 @@ but_newer s at v cs entry h = put_in_all_agree here (root_but v.0 s.stack) (root
         go : (b : Bool) → (l.var.0 == v.0) ≡ b → cond b (Last l) (root s.stack l) ≡ root newer l
         go true q = sym (root_unnamed newer l (not_newer l q))
         go false q = ap (λ z. root z l) e ∙ (root_past older (Gone v cs ∷ newer) l (not_older l t) ∙ cond_at (l.var.0 == v.0) (Lost v) (root newer l) q)
+
+-- so the clauses come to what they come to along the newer entries
+pub but_newer : (s : State) (at : ℕ) (v : Own) (cs : List (List OwnLit)) → slice_get s.stack at ≡ Some (Gone v cs) → IsPlaced s → put_in_all (root_but v.0 s.stack) cs ≡ put_in_all (root (drop (suc at) s.stack)) cs
+but_newer s at v cs entry h =
+    let n : LooksNewer s at v cs = looks_newer s at v cs entry h in
+    put_in_all_agree n.test (root_but v.0 s.stack) (root (drop (suc at) s.stack)) n.roots cs n.passes
 
 -- an entry that is taken out is that of no other variable
 entry_of-others : (k : ℕ) (s : List Entry) (at : ℕ) (e : Entry) → slice_get s at ≡ Some e → names k e ≡ false → entry_of k (remove s at) ≡ entry_of k s
