@@ -1,0 +1,33 @@
+-- What stays where variables are restored one after another.
+use Rattle.std.proofs.Common.{◌≡◌, List, [], ◌∷◌, ◌++◌, refl, sym, ap, subst, ◌∙◌}
+use Rattle.sat_lits.specs.declared.literal.Own.{Own}
+use Rattle.state_laws.specs.State.{State}
+use Rattle.state_laws.specs.Stands.{Stands}
+use Rattle.state_laws.specs.RestoreLaws.{restored-Stands}
+use Rattle.state_laws.specs.Kernel.{Kernel, state_of, TookSame}
+use Rattle.private_state.specs.Restoring.{Restores}
+use Rattle.restore_var.specs.Restored.{AreRestored}
+
+-- one variable more is restored
+pub restored_more : (vs : List Own) (s t u : State) (v : Own) → AreRestored vs s t → Restores t u v → AreRestored (vs ++ v ∷ []) s u
+restored_more [] s t u v a r = (u, (subst (λ (z : State). Restores z u v) a r, refl))
+restored_more (w ∷ vs) s t u v a r = (a.0, (a.1.0, restored_more vs a.0 t u v a.1.1 r))
+
+-- the state stands
+pub still_stands : (vs : List Own) (s t : State) → AreRestored vs s t → Stands s → Stands t
+still_stands [] s t a h = subst (λ (z : State). Stands z) (sym a) h
+still_stands (v ∷ vs) s t a h = still_stands vs a.0 t a.1.1 (subst (λ (z : State). Stands z) (sym a.1.0.becomes) (restored-Stands a.1.0.place v a.1.0.clauses s a.1.0.restorable h))
+
+same_parts : {X : Type 0} (f : State → X) → ((s t : State) (v : Own) → Restores s t v → f t ≡ f s) → (vs : List Own) (s t : State) → AreRestored vs s t → f t ≡ f s
+same_parts f h [] s t a = ap f a
+same_parts f h (v ∷ vs) s t a = same_parts f h vs a.0 t a.1.1 ∙ h s a.0 v a.1.0
+
+-- what was taken is the same, and so is whether the state was refuted
+pub restored_TookSame : (vs : List Own) (k n : Kernel) → AreRestored vs (state_of k) (state_of n) → TookSame k n
+restored_TookSame vs k n a =
+    record {
+      items = same_parts (λ (s : State). s.items) (λ s t v r. ap (λ (z : State). z.items) r.becomes) vs (state_of k) (state_of n) a;
+      entries = same_parts (λ (s : State). s.entries) (λ s t v r. ap (λ (z : State). z.entries) r.becomes) vs (state_of k) (state_of n) a;
+      definitions = same_parts (λ (s : State). s.definitions) (λ s t v r. ap (λ (z : State). z.definitions) r.becomes) vs (state_of k) (state_of n) a;
+      okay = λ e. sym (same_parts (λ (s : State). s.okay) (λ s t v r. ap (λ (z : State). z.okay) r.becomes) vs (state_of k) (state_of n) a) ∙ e;
+    }
