@@ -1,1 +1,5 @@
 pub mod EliminatingLaws
+pub mod Marking
+pub mod Subsuming
+pub mod Implying
+pub mod Counting

@@ -1,1 +1,5 @@
 pub mod Eliminating
+pub mod Subsumption
+pub mod Dropping
+pub mod Marks
+pub mod Marked

@@ -2,6 +2,10 @@
 //! Biere, 2005).
 #![tactic(auto)]
 
+mod drop;
 mod eliminate;
+mod marks;
+mod subsume;
 
+pub use drop::drop_subsumed;
 pub use eliminate::eliminate_some;
