@@ -3,6 +3,7 @@ pub mod Stands
 pub mod Resolution
 pub mod Moves
 pub mod Conditions
+pub mod Away
 pub mod Held
 pub mod Kernel
 pub mod PlaceLaws

@@ -37,12 +37,12 @@ each_both : {X : Type 0} (p q : X → Bool) (cs : List (List X)) → list_all (�
 each_both p q cs e f = both_all (list_all p) (list_all q) (list_all (λ x. p x && q x)) (λ c a b. both_all p q (λ x. p x && q x) (λ x g h. and_from _ _ g h) c a b) cs e f
 
 -- a test that all literals of an entry's clauses pass, and that no literal passes which newer entries lose
-record Clear (cs : List (List OwnLit)) (newer : List Entry) : Type 0 where
+pub record Clear (cs : List (List OwnLit)) (newer : List Entry) : Type 0 where
   pub test : OwnLit → Bool
   pub passes : list_all (list_all test) cs ≡ true
   pub found : (l : OwnLit) → test l ≡ true → is_lost (root newer l) ≡ false
 
-between : (s : State) (v : Own) (cs : List (List OwnLit)) (older newer : List Entry) → s.stack ≡ older ++ Gone v cs ∷ newer → IsPlaced s
+pub between : (s : State) (v : Own) (cs : List (List OwnLit)) (older newer : List Entry) → s.stack ≡ older ++ Gone v cs ∷ newer → IsPlaced s
     → list_all (λ c. list_all (λ l. (l.var.0 == v.0) || not (is_lost (root s.stack l))) c) cs ≡ true → Clear cs newer
 between s v cs older newer e h r =
     record {

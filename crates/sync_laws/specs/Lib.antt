@@ -1,0 +1,9 @@
+pub mod Met
+pub mod Steps
+pub mod FitLaws
+pub mod CoverLaws
+pub mod CoversLaws
+pub mod MetLaws
+pub mod KeepLaws
+pub mod StepLaws
+pub mod TurnLaws
