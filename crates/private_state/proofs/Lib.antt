@@ -2,3 +2,4 @@ pub mod Rows
 pub mod Reading
 pub mod Reviving
 pub mod Resolving
+pub mod Importing

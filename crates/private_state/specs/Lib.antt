@@ -1,4 +1,6 @@
 pub mod Taking
+pub mod Importing
+pub mod ImportLaws
 pub mod Kept
 pub mod Rebuilt
 pub mod Restoring

@@ -7,6 +7,7 @@
 
 mod bound;
 mod eliminate;
+mod import;
 mod resolve;
 mod restore;
 mod state;
@@ -15,5 +16,6 @@ mod take_out;
 mod tests;
 mod values;
 
+pub use import::Import;
 pub use state::PrivateState;
 pub use state_laws::Definition;

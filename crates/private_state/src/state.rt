@@ -42,7 +42,7 @@ use var_maps::VarMaps;
 pub struct PrivateState {
     pub(crate) alloc: Global,
     items: Vec<Item>,
-    entries: Vec<Shared>,
+    pub(crate) entries: Vec<Shared>,
     definitions: Vec<Option<Definition>>,
     pub(crate) maps: VarMaps,
     pub(crate) store: IndexedStore,
