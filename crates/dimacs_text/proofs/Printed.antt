@@ -25,7 +25,8 @@ values_text-more before values i l =
     flat_map_more text before (enumerate_from 0 front) (i, value) ∙ ap (λ t. before ++ flat_map text t) (sym counted)
 
 -- three parts, of which the last may fail
-pub parts_written : {X E : Type 0} (result : Result X E) (old first second last : List ℕ) (a b c : List ℕ) → first ≡ old ++ a → second ≡ first ++ b → last ≡ (if is_ok result then second ++ c else second)
+pub parts_written : {X E : Type 0} (result : Result X E) (old first second last : List ℕ) (a b c : List ℕ) → first ≡ old ++ a → second ≡ first ++ b
+    → last ≡ (if is_ok result then second ++ c else second)
     → OnOk result (last ≡ old ++ (a ++ b ++ c))
 parts_written (Ok x) old first second last a b c e f g = rw (g, f, e) (simp append_assoc)
 parts_written (Err x) old first second last a b c e f g = tt

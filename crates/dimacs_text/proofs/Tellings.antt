@@ -10,12 +10,14 @@ use Rattle.std.proofs.lemmas.List.{append_cancel_left}
 use Rattle.std.proofs.lemmas.List.Concat.{flat_map-append}
 use Rattle.std.proofs.lemmas.List.Folds.{flat_map-map, list_all-append}
 use Rattle.sat_lits.specs.declared.literal.Lit.{Lit}
+use Rattle.sat_lits.specs.declared.shared.Shared.{Shared}
 use Rattle.sat_lits.specs.declared.verdict.Verdict.{Verdict}
 use Rattle.sat_lits.specs.declared.verdict.Verdict.TheVariants.{Sat, Unsat}
-use Rattle.dimacs_text.specs.Texts.{values_text, literals_text, counts_text, text_of_verdict}
-use Rattle.dimacs_text.specs.Written.{Written, OfVerdict, OfLimit, OfRefusal, text_of, EachFits, NoProperFront, TellsVerdict, TellsEach}
-use Rattle.dimacs_text.specs.declared.refusal.Refusal.TheVariants.{NotPlain}
-use Rattle.dimacs_text.proofs.Lines.{Line, line, behind_blanks, text_of_line, text_of_lines, is_word, has_words, lines_read, lines_none, is_digits, decimal_digits, digits_word}
+use Rattle.dimacs_text.specs.Texts.{values_text, literals_text, counts_text, text_of_verdict, word_of, place_of}
+use Rattle.dimacs_text.specs.Written.{Written, OfVerdict, OfLimit, OfAlarm, OfShared, OfRefusal, text_of, EachFits, NoProperFront, TellsVerdict, TellsEach}
+use Rattle.dimacs_text.specs.declared.refusal.Refusal.{Refusal}
+use Rattle.dimacs_text.specs.declared.refusal.Refusal.TheVariants.{BadToken, VarTooLarge, TooManyLits, Truncated, TooLong}
+use Rattle.dimacs_text.proofs.WordLines.{Line, line, behind_blanks, text_of_line, text_of_lines, is_word, has_words, lines_read, lines_none, is_digits, decimal_digits, digits_word}
 
 -- a literal's word, and what it says
 
@@ -126,7 +128,9 @@ lines_of_verdict (Unsat failed) =
 abbrev lines_of : Written → List Line
 lines_of (OfVerdict verdict) = lines_of_verdict verdict
 lines_of (OfLimit counts) = line (codes "s") (codes "INDETERMINATE" ∷ []) ∷ line (codes "c") (codes "limit" ∷ map decimal counts) ∷ []
-lines_of (OfRefusal NotPlain) = line (codes "c") (codes "refused" ∷ codes "not-plain" ∷ []) ∷ []
+lines_of OfAlarm = line (codes "s") (codes "INDETERMINATE" ∷ []) ∷ line (codes "c") (codes "alarm" ∷ []) ∷ []
+lines_of (OfShared entry) = line (codes "c") (codes "shared" ∷ decimal entry.solver ∷ decimal entry.after ∷ (map lit_word entry.clause ++ codes "0" ∷ [])) ∷ []
+lines_of (OfRefusal why) = line (codes "c") (codes "refused" ∷ word_of why ∷ decimal (place_of why) ∷ []) ∷ []
 
 -- the words behind the first of the first line
 abbrev words_in : List Line → List (List ℕ)
@@ -141,15 +145,48 @@ abbrev begins : List (List ℕ) → List ℕ → Bool
 begins [] word = false
 begins (w ∷ ws) word = bytes_eq w word
 
+-- the entry that words tell behind the word `shared`
+
+abbrev said_shared : List (List ℕ) → Shared
+said_shared [] = record { solver = 0; after = 0; clause = [] }
+said_shared (solver ∷ []) = record { solver = 0; after = 0; clause = [] }
+said_shared (solver ∷ after ∷ literals) = record { solver = digits_value 10 solver; after = digits_value 10 after; clause = map said_literal (but_last literals) }
+
+-- the refusal that words tell behind the word `refused`
+
+abbrev refusal_by : List ℕ → ℕ → Refusal
+refusal_by word place = elim (bytes_eq word (codes "bad-token")) [
+  | true ↦ BadToken place
+  | false ↦ elim (bytes_eq word (codes "var-too-large")) [
+    | true ↦ VarTooLarge place
+    | false ↦ elim (bytes_eq word (codes "too-many-lits")) [
+      | true ↦ TooManyLits place
+      | false ↦ elim (bytes_eq word (codes "truncated")) [ true ↦ Truncated place | false ↦ TooLong place ]
+    ]
+  ]
+]
+
+abbrev said_refusal : List (List ℕ) → Refusal
+said_refusal [] = TooLong 0
+said_refusal (word ∷ []) = TooLong 0
+said_refusal (word ∷ number ∷ more) = refusal_by word (digits_value 10 number)
+
+refusal_named : (why : Refusal) → refusal_by (word_of why) (place_of why) ≡ why
+refusal_named (BadToken place) = refl
+refusal_named (VarTooLarge place) = refl
+refusal_named (TooManyLits place) = refl
+refusal_named (Truncated place) = refl
+refusal_named (TooLong place) = refl
+
 abbrev said : List Line → Written
-said [] = OfRefusal NotPlain
+said [] = OfAlarm
 said (l ∷ ls) = elim (begins l.others (codes "SATISFIABLE")) [
   | true ↦ OfVerdict (Sat (map (λ w. not (is_signed w)) (but_last (words_in ls))))
   | false ↦ elim (begins l.others (codes "UNSATISFIABLE")) [
     | true ↦ OfVerdict (Unsat (map said_literal (but_last (but_first (words_in ls)))))
     | false ↦ elim (begins l.others (codes "INDETERMINATE")) [
-      | true ↦ OfLimit (map (digits_value 10) (but_first (words_in ls)))
-      | false ↦ OfRefusal NotPlain
+      | true ↦ elim (begins (words_in ls) (codes "alarm")) [ true ↦ OfAlarm | false ↦ OfLimit (map (digits_value 10) (but_first (words_in ls))) ]
+      | false ↦ elim (begins l.others (codes "shared")) [ true ↦ OfShared (said_shared (but_first l.others)) | false ↦ OfRefusal (said_refusal (but_first l.others)) ]
     ]
   ]
 ]
@@ -165,7 +202,23 @@ lines_say (OfVerdict (Unsat failed)) more h =
     ap (map said_literal) (but_last-push (map lit_word failed) (codes "0")) ∙ literals_said failed h in
     ap (λ (ls : List Lit). OfVerdict (Unsat ls)) e
 lines_say (OfLimit counts) more h = ap OfLimit (counts_said counts h)
-lines_say (OfRefusal NotPlain) more h = refl
+lines_say OfAlarm more h = refl
+lines_say (OfShared entry) more h =
+    let solver = (decimal_is_IsNumeral entry.solver h.0).1 in
+    let after = (decimal_is_IsNumeral entry.after h.1).1 in
+    let clause : map said_literal (but_last (map lit_word entry.clause ++ codes "0" ∷ [])) ≡ entry.clause =
+    ap (map said_literal) (but_last-push (map lit_word entry.clause) (codes "0")) ∙ literals_said entry.clause h.2 in
+    let same : ◌≡◌ {A = Shared} (record { solver = digits_value 10 (decimal entry.solver); after = digits_value 10 (decimal entry.after); clause = map said_literal (but_last (map lit_word entry.clause ++ codes "0" ∷ [])) }) entry = rw (solver, after, clause) refl in
+    ap OfShared same
+lines_say (OfRefusal why) more h = ap OfRefusal (ap (refusal_by (word_of why)) (decimal_is_IsNumeral (place_of why) h).1 ∙ refusal_named why)
+
+-- the word for a refusal is a word
+refusal_is_word : (why : Refusal) → is_word (word_of why) ≡ true
+refusal_is_word (BadToken place) = refl
+refusal_is_word (VarTooLarge place) = refl
+refusal_is_word (TooManyLits place) = refl
+refusal_is_word (Truncated place) = refl
+refusal_is_word (TooLong place) = refl
 
 lines_have_words : (a : Written) → EachFits a → list_all has_words (lines_of a) ≡ true
 lines_have_words (OfVerdict (Sat values)) h =
@@ -173,7 +226,16 @@ lines_have_words (OfVerdict (Sat values)) h =
 lines_have_words (OfVerdict (Unsat failed)) h =
     let e = words_push (map lit_word failed) (literals_are_words failed h) in rw e refl
 lines_have_words (OfLimit counts) h = let e = counts_are_words counts h in rw e refl
-lines_have_words (OfRefusal NotPlain) h = refl
+lines_have_words OfAlarm h = refl
+lines_have_words (OfShared entry) h =
+    let e = words_push (map lit_word entry.clause) (literals_are_words entry.clause h.2) in
+    let solver = digits_word (decimal entry.solver) (decimal_digits entry.solver h.0) in
+    let after = digits_word (decimal entry.after) (decimal_digits entry.after h.1) in
+    rw (solver, after, e) refl
+lines_have_words (OfRefusal why) h =
+    let place = digits_word (decimal (place_of why)) (decimal_digits (place_of why) h) in
+    let word = refusal_is_word why in
+    rw (word, place) refl
 
 -- words behind blanks, and a last one at the end of the line
 line_end : (text : List ℕ) (words : List (List ℕ)) (last : List ℕ) → text ≡ behind_blanks words → text ++ 32 ∷ (last ++ 10 ∷ []) ≡ (behind_blanks (words ++ last ∷ []) ++ 10 ∷ []) ++ []
@@ -181,6 +243,20 @@ line_end text words last e =
     ap (λ t. t ++ 32 ∷ (last ++ 10 ∷ [])) e
     ∙ sym (append-nil _ ∙ ap (λ t. t ++ 10 ∷ []) (flat_map-append (λ word. 32 ∷ word) words (last ∷ [])) ∙ append_assoc (behind_blanks words) (behind_blanks (last ∷ [])) (10 ∷ [])
     ∙ ap (λ t. behind_blanks words ++ t) (ap (λ t. 32 ∷ (t ++ 10 ∷ [])) (append-nil last)))
+
+-- two numbers with words behind them
+shared_split : (solver after words : List ℕ) → ((solver ++ 32 ∷ []) ++ after) ++ ((words ++ 10 ∷ []) ++ []) ≡ ((solver ++ 32 ∷ (after ++ words)) ++ 10 ∷ []) ++ []
+shared_split solver after words =
+    let front : ((solver ++ 32 ∷ []) ++ after) ++ words ≡ solver ++ 32 ∷ (after ++ words) = ap (λ t. t ++ words) (append_assoc solver (32 ∷ []) after) ∙ append_assoc solver (32 ∷ after) words in
+    ap (λ t. ((solver ++ 32 ∷ []) ++ after) ++ t) (append-nil (words ++ 10 ∷ []))
+    ∙ sym (append_assoc ((solver ++ 32 ∷ []) ++ after) words (10 ∷ []))
+    ∙ ap (λ t. t ++ 10 ∷ []) front
+    ∙ sym (append-nil ((solver ++ 32 ∷ (after ++ words)) ++ 10 ∷ []))
+
+-- a word and a number behind it
+refusal_split : (word place : List ℕ) → ((word ++ 32 ∷ []) ++ place) ++ 10 ∷ [] ≡ ((word ++ 32 ∷ (place ++ [])) ++ 10 ∷ []) ++ []
+refusal_split word place =
+    ap (λ t. t ++ 10 ∷ []) (append_assoc word (32 ∷ []) place ∙ ap (λ t. word ++ 32 ∷ t) (sym (append-nil place))) ∙ sym (append-nil ((word ++ 32 ∷ (place ++ [])) ++ 10 ∷ []))
 
 lines_text : (a : Written) → text_of a ≡ text_of_lines (lines_of a)
 lines_text (OfVerdict (Sat values)) =
@@ -192,7 +268,13 @@ lines_text (OfVerdict (Unsat failed)) =
 lines_text (OfLimit counts) =
     let e : counts_text counts ≡ behind_blanks (map decimal counts) = sym (flat_map-map (λ word. 32 ∷ word) decimal counts) in
     ap (λ t. codes "s INDETERMINATE\nc limit" ++ t) (ap (λ t. t ++ 10 ∷ []) e ∙ sym (append-nil _))
-lines_text (OfRefusal NotPlain) = refl
+lines_text OfAlarm = refl
+lines_text (OfShared entry) =
+    let e = line_end (literals_text entry.clause) (map lit_word entry.clause) (codes "0") (sym (flat_map-map (λ word. 32 ∷ word) lit_word entry.clause)) in
+    let numbers : List ℕ = (decimal entry.solver ++ 32 ∷ []) ++ decimal entry.after in
+    ap (λ t. codes "c shared " ++ t)
+    (append_assoc numbers (literals_text entry.clause) (codes " 0\n") ∙ ap (λ t. numbers ++ t) e ∙ shared_split (decimal entry.solver) (decimal entry.after) (behind_blanks (map lit_word entry.clause ++ codes "0" ∷ [])))
+lines_text (OfRefusal why) = ap (λ t. codes "c refused " ++ t) (refusal_split (word_of why) (decimal (place_of why)))
 
 nothing_more : (xs more : List Line) → xs ≡ xs ++ more → more ≡ []
 nothing_more xs more e = sym (append_cancel_left xs [] more (append-nil xs ∙ e))
@@ -227,7 +309,9 @@ lines_some : (a : Written) (more : List Line) → [] ≡ lines_of a ++ more → 
 lines_some (OfVerdict (Sat values)) more e = cc
 lines_some (OfVerdict (Unsat failed)) more e = cc
 lines_some (OfLimit counts) more e = cc
-lines_some (OfRefusal NotPlain) more e = cc
+lines_some OfAlarm more e = cc
+lines_some (OfShared entry) more e = cc
+lines_some (OfRefusal why) more e = cc
 
 told_apart : (ws vs : List Written) → AllByRecursion EachFits ws → AllByRecursion EachFits vs → lines_of_all ws ≡ lines_of_all vs → ws ≡ vs
 told_apart [] [] h k e = refl

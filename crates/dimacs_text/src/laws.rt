@@ -1,18 +1,9 @@
 //! Laws on the texts of this crate. Each is the contract of a function that does nothing.
 
-ghost use Rattle.std.specs.Prelude.{◌≡◌, ◌↔◌, ℕ, List};
-ghost use Rattle.sat_lits.specs.Limits.{LimitNumbers};
-ghost use Rattle.dimacs_text.specs.Grammar.{Ended, reading_of};
-ghost use Rattle.dimacs_text.specs.Plain.{IsPlain};
 ghost use Rattle.dimacs_text.specs.Written.{NoProperFront, TellsEach, TellsVerdict};
 
-/// A text ends, and is not refused, exactly where it is plain.
-pub fn plain_texts()
-    ensures { (limits : LimitNumbers) (text : List ℕ)
-        → ((reading_of limits text).end ≡ Ended) ↔ IsPlain limits text }
-{}
-
-/// No text that is written for an answer or a refusal is a proper front of another one.
+/// No text that is written for an answer, a shared clause or a refusal is a proper front of another
+/// one.
 pub fn texts_are_no_fronts_of_one_another()
     ensures { NoProperFront }
 {}

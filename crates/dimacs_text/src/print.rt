@@ -1,8 +1,8 @@
 ghost use Rattle.std.specs.Prelude.{◌≡◌, ◌+◌, ◌-◌, ◌^◌, ◌<◌, ◌++◌, OnOk, OnErr, string_bytes};
-ghost use Rattle.dimacs_text.specs.Texts.{literal_text, values_text, literals_text, counts_text, text_of_verdict, text_of_refusal, text_of_limit};
+ghost use Rattle.dimacs_text.specs.Texts.{literal_text, values_text, literals_text, counts_text, giver_text, text_of_verdict, text_of_limit, text_of_alarm, text_of_shared, text_of_refusal};
 
 use crate::refusal::Refusal;
-use sat_lits::{List, Lit, NoMemory, Verdict};
+use sat_lits::{List, Lit, NoMemory, Shared, Verdict};
 use std::alloc::AllocError;
 
 /// Appends the lines that report a verdict. For want of memory the list stays as it was.
@@ -20,9 +20,27 @@ pub fn print_refusal(to: &mut List<u8>, refusal: &Refusal) -> Result<(), NoMemor
     ensures ok { OnOk result (to.new ≡ to.old ++ text_of_refusal refusal.now) }
     ensures err { OnErr result (to.new ≡ to.old) }
 {
-    match refusal {
-        Refusal::NotPlain => to.extend_from_slice(b"c refused not-plain\n"),
-    }
+    let mut text = String::new(to.allocator());
+    write_refusal(&mut text, refusal)?;
+    to.extend_from_slice(text.as_bytes())
+}
+
+/// Appends the lines that report an alarm. For want of memory the list stays as it was.
+pub fn print_alarm(to: &mut List<u8>) -> Result<(), NoMemory>
+    ensures ok { OnOk result (to.new ≡ to.old ++ text_of_alarm) }
+    ensures err { OnErr result (to.new ≡ to.old) }
+{
+    to.extend_from_slice(b"s INDETERMINATE\nc alarm\n")
+}
+
+/// Appends the line of a clause that solvers share. For want of memory the list stays as it was.
+pub fn print_shared(to: &mut List<u8>, entry: &Shared) -> Result<(), NoMemory>
+    ensures ok { OnOk result (to.new ≡ to.old ++ text_of_shared entry.now) }
+    ensures err { OnErr result (to.new ≡ to.old) }
+{
+    let mut text = String::new(to.allocator());
+    write_shared(&mut text, entry)?;
+    to.extend_from_slice(text.as_bytes())
 }
 
 /// Appends the lines that report a spent conflict limit, with a count for each solver. For want of
@@ -81,6 +99,29 @@ fn write_literal(text: &mut String, negative: bool, var: usize) -> Result<(), Al
     write!(text, " {sign}{}", var + 1)
 }
 
+fn write_refusal(text: &mut String, refusal: &Refusal) -> Result<(), AllocError>
+    ensures { OnOk result (string_bytes text.new ≡ string_bytes text.old ++ text_of_refusal refusal.now) }
+{
+    let word = refusal.word();
+    let place = refusal.place();
+    writeln!(text, "c refused {word} {place}")
+}
+
+fn write_shared(text: &mut String, entry: &Shared) -> Result<(), AllocError>
+    ensures { OnOk result (string_bytes text.new ≡ string_bytes text.old ++ text_of_shared entry.now) }
+{
+    write_giver(text, entry.solver, entry.after)?;
+    write_literals(text, entry.clause.as_slice())?;
+    text.push_str(" 0\n")
+}
+
+/// Writes who gave a shared clause, and behind how many entries.
+fn write_giver(text: &mut String, solver: u32, after: u64) -> Result<(), AllocError>
+    ensures { OnOk result (string_bytes text.new ≡ string_bytes text.old ++ giver_text solver after) }
+{
+    write!(text, "c shared {solver} {after}")
+}
+
 fn write_limit(text: &mut String, counts: &[u64]) -> Result<(), AllocError>
     ensures { OnOk result (string_bytes text.new ≡ string_bytes text.old ++ text_of_limit counts.now) }
 {
@@ -106,7 +147,7 @@ mod tests {
     use std::test::Fail;
 
     #[test]
-    fn prints_verdicts_refusals_and_limits(rt: HostRuntime) -> Result<(), Fail> {
+    fn prints_each_text(rt: HostRuntime) -> Result<(), Fail> {
         let alloc = rt.alloc();
         let one = Lit {
             var: Var(0),
@@ -127,16 +168,40 @@ mod tests {
             &mut text,
             &Verdict::Unsat(List::from_slice(alloc, &[one, minus_four])?),
         )?;
-        print_refusal(&mut text, &Refusal::NotPlain)?;
+        print_refusal(&mut text, &Refusal::BadToken { place: 2 })?;
+        print_refusal(&mut text, &Refusal::VarTooLarge { place: 0 })?;
+        print_refusal(&mut text, &Refusal::TooManyLits { place: 8 })?;
+        print_refusal(&mut text, &Refusal::Truncated { place: 3 })?;
+        print_refusal(
+            &mut text,
+            &Refusal::TooLong {
+                place: 2_147_483_648,
+            },
+        )?;
         print_limit(&mut text, &[0])?;
         print_limit(&mut text, &[109, 18_446_744_073_709_551_615])?;
+        print_alarm(&mut text)?;
+        print_shared(
+            &mut text,
+            &Shared {
+                solver: 3,
+                after: 17,
+                clause: List::from_slice(alloc, &[one, minus_four])?,
+            },
+        )?;
         let lines = b"s SATISFIABLE\nv 1 -2 0\n\
             s SATISFIABLE\nv 0\n\
             s UNSATISFIABLE\nc failed 0\n\
             s UNSATISFIABLE\nc failed 1 -4 0\n\
-            c refused not-plain\n\
+            c refused bad-token 2\n\
+            c refused var-too-large 0\n\
+            c refused too-many-lits 8\n\
+            c refused truncated 3\n\
+            c refused too-long 2147483648\n\
             s INDETERMINATE\nc limit 0\n\
-            s INDETERMINATE\nc limit 109 18446744073709551615\n";
+            s INDETERMINATE\nc limit 109 18446744073709551615\n\
+            s INDETERMINATE\nc alarm\n\
+            c shared 3 17 1 -4 0\n";
         assert_eq!(rt; text.as_slice(), lines.as_slice());
         Ok(())
     }

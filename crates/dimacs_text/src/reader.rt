@@ -1,43 +1,24 @@
-ghost use Rattle.std.specs.Prelude.{◌≡◌, [], IfErr, IsOk, OnOk};
+ghost use Rattle.std.specs.Prelude.{◌≡◌, ◌++◌, ℕ, List, [], true, IsOk, OnOk};
+ghost use Rattle.sat_lits.specs.Limits.{LimitNumbers};
+ghost use Rattle.dimacs_text.specs.declared.command.Command.{Command};
 ghost use Rattle.dimacs_text.specs.declared.refusal.Refusal.{Refusal};
 ghost use Rattle.dimacs_text.specs.declared.refusal.ReadError.{ReadError};
-ghost use Rattle.dimacs_text.specs.Grammar.{Ended, Refused};
-ghost use Rattle.dimacs_text.specs.Steps.{token_step, word_step, byte_step, end_step, Does};
+ghost use Rattle.dimacs_text.specs.declared.state.Stage.TheVariants.{Open};
+ghost use Rattle.dimacs_text.specs.Lists.{Ended, Refused};
+ghost use Rattle.dimacs_text.specs.Grammar.{reading_of, ends_within};
 ghost use Rattle.dimacs_text.specs.Reads.{HasRead, Gives, Refuses, RunsOut, Concludes, HasEnded, HasFailed};
 
-use crate::command::{Command, Commands};
+use crate::command::Commands;
 use crate::refusal::{ReadError, Refusal};
-use crate::token::{Token, Word, extended, is_blank, token_of};
-use sat_lits::{Limits, List, Lit};
+use crate::state::{Stage, State};
+use sat_lits::Limits;
 use std::alloc::Global;
-use std::mem;
 
-/// Whether a reader goes on.
-#[derive(Clone, Copy)]
-enum Stage {
-    /// More of the text may come.
-    Open,
-    /// The text has ended.
-    Ended,
-    /// This is answered from now on.
-    Failed(ReadError),
-}
-
-/// Reads a text that comes in any pieces. It keeps the open clause alone, and no text.
+/// Reads a text that comes in any pieces. It keeps the literals of the open clause, parity or
+/// command alone, and no text.
 #[derive(Drop)]
 pub struct Reader {
-    alloc: Global,
-    limits: Limits,
-    stage: Stage,
-    /// The number of bytes so far.
-    place: u64,
-    /// The number of literals so far.
-    count: u64,
-    in_clause: bool,
-    /// The literals of the open clause.
-    lits: List<Lit>,
-    /// The token that has begun.
-    word: Word,
+    state: State,
 }
 
 impl Reader {
@@ -46,14 +27,7 @@ impl Reader {
         ensures { HasRead limits [] [] result }
     {
         Reader {
-            alloc,
-            limits,
-            stage: Stage::Open,
-            place: 0,
-            count: 0,
-            in_clause: false,
-            lits: List::new(alloc),
-            word: Word::Empty,
+            state: State::new(alloc, limits),
         }
     }
 
@@ -61,6 +35,7 @@ impl Reader {
     ///
     /// `Refused` comes where the text is refused within the piece, however it goes on; the commands
     /// before that place are appended. After an error the reader answers that error from then on.
+    /// Behind a `%` that ends the formula it takes nothing and answers Ok.
     pub fn feed(&mut self, piece: &[u8], to: &mut Commands) -> Result<(), ReadError>
         ensures ok { OnOk result (Gives self.old self.new piece.now to.old to.new) }
         ensures refused { (why : Refusal)
@@ -76,9 +51,9 @@ impl Reader {
         ensures after_end { HasEnded self.old
             → IsOk result × (self.new ≡ self.old) × (to.new ≡ to.old) }
     {
-        match self.stage {
+        match self.state.stage {
             Stage::Open => self.take_piece(piece, to),
-            Stage::Ended => Ok(()),
+            Stage::Ended | Stage::Finished => Ok(()),
             Stage::Failed(error) => Err(error),
         }
     }
@@ -103,11 +78,25 @@ impl Reader {
         ensures after_end { HasEnded self.old
             → IsOk result × (self.new ≡ self.old) × (to.new ≡ to.old) }
     {
-        match self.stage {
+        match self.state.stage {
             Stage::Open => self.take_end(to),
-            Stage::Ended => Ok(()),
+            Stage::Ended | Stage::Finished => Ok(()),
             Stage::Failed(error) => Err(error),
         }
+    }
+
+    /// Whether a `%` has ended the text.
+    pub fn ended(&self) -> bool
+        ensures told { (limits : LimitNumbers) (text : List ℕ) (given : List Command)
+            → HasRead limits text given self.now
+            → result ≡ ends_within limits text }
+        ensures settled { result ≡ true
+            → (limits : LimitNumbers) (text : List ℕ) (given : List Command)
+            → HasRead limits text given self.now
+            → (rest : List ℕ)
+            → reading_of limits (text ++ rest) ≡ record { commands = given; end = Ended } }
+    {
+        self.state.has_ended()
     }
 
     /// A piece comes.
@@ -120,8 +109,11 @@ impl Reader {
         ensures latched { (error : ReadError) → result ≡ Err error → HasFailed self.new error }
     {
         for byte in piece {
-            if let Err(error) = self.byte_step(*byte, to) {
-                self.stage = Stage::Failed(error);
+            if self.state.has_ended() {
+                return Ok(());
+            }
+            if let Err(error) = self.state.byte_step(*byte, to) {
+                self.state.stage = Stage::Failed(error);
                 return Err(error);
             }
         }
@@ -130,6 +122,7 @@ impl Reader {
 
     /// The text ends, and the reading with it.
     fn take_end(&mut self, to: &mut Commands) -> Result<(), ReadError>
+        requires { self.old.state.stage ≡ Open }
         ensures ok { OnOk result (Concludes self.old to.old to.new Ended) }
         ensures refused { (why : Refusal)
             → result ≡ Err (ReadError.Refused why)
@@ -138,90 +131,15 @@ impl Reader {
         ensures ended { OnOk result (HasEnded self.new) }
         ensures latched { (error : ReadError) → result ≡ Err error → HasFailed self.new error }
     {
-        match self.end_step(to) {
+        match self.state.end_step(to) {
             Ok(()) => {
-                self.stage = Stage::Ended;
+                self.state.stage = Stage::Finished;
                 Ok(())
             }
             Err(error) => {
-                self.stage = Stage::Failed(error);
+                self.state.stage = Stage::Failed(error);
                 Err(error)
             }
-        }
-    }
-
-    /// A token ends.
-    #[tactic(auto, unfolding(crate::specs::Steps::token_step))]
-    fn token_step(&mut self, token: Token, to: &mut Commands) -> Result<(), ReadError>
-        ensures { Does result self.new to.old to.new (token_step self.old token) }
-    {
-        match token {
-            Token::Ending => {
-                let empty = List::new(self.alloc);
-                let lits = mem::replace(&mut self.lits, empty);
-                self.in_clause = false;
-                self.word = Word::Empty;
-                to.push(Command::Clause(lits))?;
-                Ok(())
-            }
-            Token::Literal(lit) => {
-                let limits = self.limits;
-                if self.count < limits.lits() {
-                    self.in_clause = true;
-                    self.word = Word::Empty;
-                    self.count += 1;
-                    self.lits.push(lit)?;
-                    Ok(())
-                } else {
-                    Err(ReadError::Refused(Refusal::NotPlain))
-                }
-            }
-            Token::TooLarge => Err(ReadError::Refused(Refusal::NotPlain)),
-            Token::NoLiteral => Err(ReadError::Refused(Refusal::NotPlain)),
-        }
-    }
-
-    /// The token that has begun ends, if there is one.
-    #[tactic(auto, unfolding(crate::specs::Steps::word_step))]
-    fn word_step(&mut self, to: &mut Commands) -> Result<(), ReadError>
-        ensures { Does result self.new to.old to.new (word_step self.old self.old.word) }
-    {
-        let limits = self.limits;
-        match self.word {
-            Word::Empty => Ok(()),
-            word => self.token_step(token_of(word, limits.vars()), to),
-        }
-    }
-
-    /// A byte comes.
-    #[tactic(auto, unfolding(crate::specs::Steps::byte_step))]
-    fn byte_step(&mut self, byte: u8, to: &mut Commands) -> Result<(), ReadError>
-        ensures { Does result self.new to.old to.new (byte_step self.old byte) }
-    {
-        let limits = self.limits;
-        if limits.input() <= self.place {
-            return Err(ReadError::Refused(Refusal::NotPlain));
-        }
-        let next = self.place + 1;
-        if is_blank(byte) {
-            self.word_step(to)?;
-        } else {
-            self.word = extended(self.word, byte, limits.vars());
-        }
-        self.place = next;
-        Ok(())
-    }
-
-    /// The text ends.
-    #[tactic(auto, unfolding(crate::specs::Steps::end_step))]
-    fn end_step(&mut self, to: &mut Commands) -> Result<(), ReadError>
-        ensures { Does result self.new to.old to.new (end_step self.old) }
-    {
-        self.word_step(to)?;
-        if self.in_clause {
-            Err(ReadError::Refused(Refusal::NotPlain))
-        } else {
-            Ok(())
         }
     }
 }
@@ -230,23 +148,26 @@ impl Reader {
 mod tests {
     use super::*;
     use crate::command::Command;
-    use crate::refusal::Refusal;
     use std::alloc::AllocError;
     use std::test::Fail;
 
     /// A text in two pieces, the limit on literals, and what is read of it.
-    const ROWS: [(&str, &str, u64, &str); 11] = [
-        ("1 2", " 0", 9, "1 2 0 end"),
-        ("1 -2", "3 0", 9, "1 -23 0 end"),
-        ("1 2", "", 9, "refused"),
-        ("1 a 0", "", 9, "refused"),
-        ("16777216 0", "", 9, "refused"),
-        ("-0", "", 9, "refused"),
-        ("1 0\n", "p cnf 1 1", 9, "1 0 refused"),
-        ("1 2 0 1 ", "2 0", 3, "1 2 0 refused"),
-        ("", "", 9, "end"),
-        ("00", "", 9, "0 end"),
-        ("\t1\n2\x0b3\x0c4", "\r5 0", 9, "1 2 3 4 5 0 end"),
+    const ROWS: [(&str, &str, u64, &str); 5] = [
+        ("1 2", " 0", 9, "clause of 2, end"),
+        ("1 2 0 1 ", "2 0", 3, "clause of 2, TooManyLits at 8"),
+        ("x-", "1 2 0", 9, "parity of 2, false, end"),
+        (
+            "p cnf 4 1\nc Solver::solve",
+            "( 1 )",
+            9,
+            "4 variables, question under 1, end",
+        ),
+        (
+            "c Solver::new_vars( 3 )\n%",
+            "1 a 0",
+            9,
+            "3 variables, % and end",
+        ),
     ];
 
     fn read_pieces(
@@ -260,29 +181,45 @@ mod tests {
         reader.finish(to)
     }
 
-    /// The clauses that came of the pieces, and how the reading ended.
+    fn tell_command(text: &mut String, command: &Command) -> Result<(), AllocError> {
+        match command {
+            Command::Clause(lits) => write!(text, "clause of {}, ", lits.as_slice().len()),
+            Command::Parity { vars, rhs } => {
+                write!(text, "parity of {}, {rhs}, ", vars.as_slice().len())
+            }
+            Command::Grow { to } => write!(text, "{to} variables, "),
+            Command::Solve(lits) => write!(text, "question under {}, ", lits.as_slice().len()),
+        }
+    }
+
+    fn tell_end(text: &mut String, end: Result<(), ReadError>) -> Result<(), AllocError> {
+        match end {
+            Ok(()) => text.push_str("end"),
+            Err(ReadError::Refused(Refusal::TooManyLits { place })) => {
+                write!(text, "TooManyLits at {place}")
+            }
+            Err(_) => text.push_str("another error"),
+        }
+    }
+
+    /// The commands that came of the pieces, and how the reading ended.
     fn read(alloc: Global, limits: Limits, pieces: &[&str]) -> Result<String, AllocError> {
         let mut text = String::new(alloc);
         let mut reader = Reader::new(alloc, limits);
         let mut commands = Commands::new(alloc);
-        let ended = read_pieces(&mut reader, pieces, &mut commands);
-        while let Some(Command::Clause(lits)) = commands.take_first() {
-            for lit in lits.as_slice() {
-                let sign = if lit.negative { "-" } else { "" };
-                write!(text, "{sign}{} ", lit.var.0 as u64 + 1)?;
-            }
-            text.push_str("0 ")?;
+        let end = read_pieces(&mut reader, pieces, &mut commands);
+        while let Some(command) = commands.take_first() {
+            tell_command(&mut text, &command)?;
         }
-        text.push_str(match ended {
-            Ok(()) => "end",
-            Err(ReadError::Refused(Refusal::NotPlain)) => "refused",
-            Err(ReadError::Memory) => "memory",
-        })?;
+        if reader.ended() {
+            text.push_str("% and ")?;
+        }
+        tell_end(&mut text, end)?;
         Ok(text)
     }
 
     #[test]
-    fn reads_plain_texts(rt: HostRuntime) -> Result<(), Fail> {
+    fn reads_each_command(rt: HostRuntime) -> Result<(), Fail> {
         for (first, second, lits, expected) in &ROWS {
             let limits = Limits::new(16_777_215, *lits, 1, 2_147_483_648).ok_or("limits")?;
             let text = read(rt.alloc(), limits, &[*first, *second])?;

@@ -1,0 +1,12 @@
+use std::alloc::AllocError;
+use std::io;
+use thiserror::Error;
+
+/// What ends the tour early.
+#[derive(Debug, Drop, Error)]
+pub enum TourError {
+    #[error("a line could not be written")]
+    Print(#[from] io::Error),
+    #[error("memory ran out")]
+    Memory(#[from(alloc)] AllocError),
+}
