@@ -4,11 +4,9 @@ use Rattle.std.proofs.lemmas.Bool.{and_parts}
 use Rattle.std.proofs.lemmas.List.{map-append, length-map, take-append-drop}
 use Rattle.std.proofs.lemmas.List.Elements.{filter-append, filter_map-append}
 use Rattle.std.proofs.lemmas.Grind.{flat_map-append}
-use Rattle.std.proofs.lemmas.Option.{slice_get_within}
 use Rattle.std.specs.List.{list_all, slice_get, cons_option}
 use Rattle.sat_lits.specs.Truth.{with_value}
-use Rattle.sat_lits.specs.InLits.{is_distinct}
-use Rattle.sat_lits.specs.ListLaws.{all_push, all_filter}
+use Rattle.sat_lits.specs.ListLaws.{all_filter}
 use Rattle.sat_lits.specs.declared.literal.ClauseId.{ClauseId}
 use Rattle.sat_lits.specs.declared.literal.OwnLit.{OwnLit}
 use Rattle.sat_lits.specs.declared.literal.InLit.{InLit}
@@ -30,14 +28,11 @@ use Rattle.state_laws.specs.ResolutionLaws.{rests_pass}
 use Rattle.state_laws.specs.ViewLaws.{clauses_of-filter, get_is_some}
 use Rattle.removed_vars.specs.declared.changes.Fresh.{Fresh}
 use Rattle.private_state.specs.declared.take_out.TakenOut.{TakenOut}
-use Rattle.removed_vars.specs.Fresh.{in_clause, in_clauses, are_distinct}
+use Rattle.removed_vars.specs.Fresh.{in_clause, in_clauses}
 use Rattle.private_state.specs.Bounds.{are_few, are_short, are_bounded}
-use Rattle.private_state.specs.Resolving.{Stores, Takes, TakesOut}
-use Rattle.removed_vars.specs.CollectLaws.{taken_at, read_at, got, touches_holds}
-
--- the front of a list with one element more, which was looked up
-pub taken_some : {X : Type 0} (xs : List X) (k : ℕ) (x : X) → slice_get xs k ≡ Some x → take (k + 1) xs ≡ take k xs ++ x ∷ []
-taken_some xs k x e = taken_at xs k x (slice_get_within xs k x e) ∙ ap (λ z. take k xs ++ z ∷ []) (got xs k x x e)
+use Rattle.removed_vars.specs.Fresh.{Stores}
+use Rattle.private_state.specs.Resolving.{Takes, TakesOut}
+use Rattle.removed_vars.specs.CollectLaws.{read_at, touches_holds, taken_some}
 
 -- what is left of one clause more
 pub rests_more : (v : ℕ) (b : Bool) (cs : List (List OwnLit)) (k : ℕ) (c : List OwnLit) → slice_get cs k ≡ Some c → rests v b (take (k + 1) cs) ≡ rests v b (take k cs) ++ rests v b (c ∷ [])
@@ -67,19 +62,6 @@ block_hard m h lits e f = ap (λ b. own_clauses m (map (λ (k : Held). k.lits) (
 
 pub block_learned : (m : Maps) (h : Held) → h.learned ≡ true → own_clauses m (hard_of (h ∷ [])) ≡ []
 block_learned m h e = ap (λ b. own_clauses m (map (λ (k : Held). k.lits) (cond (not b) (h ∷ []) []))) e
-
--- one clause more is to be stored
-pub stores_more : (m : Maps) (olds news : List Fresh) (cs : List (List OwnLit)) (lits : List InLit) (clause : List OwnLit) → news ≡ olds ++ (record { learned = false; lits = lits }) ∷ [] → own_clause m lits ≡ clause → is_distinct lits ≡ true
-    → Stores m olds cs → Stores m news (cs ++ clause ∷ [])
-stores_more m olds news cs lits clause e f d s =
-    record {
-      become = ap (λ z. map (in_own m) (in_clauses z)) e
-          ∙ (ap (map (in_own m)) (map-append in_clause olds (fresh ∷ [])) ∙ (map-append (in_own m) (in_clauses olds) (in_clauses (fresh ∷ [])) ∙ (ap₂ {C = List _} ◌++◌ s.become (ap (λ z. hard_clause z ∷ []) f) ∙ sym (map-append hard_clause cs (clause ∷ [])))));
-      distinct = ap are_distinct e ∙ all_push (λ (x : Fresh). is_distinct x.lits) olds fresh s.distinct d;
-    }
-  where
-    fresh : Fresh
-    fresh = record { learned = false; lits = lits }
 
 -- one clause more is joined with the left one
 pub joins_right : (left : List OwnLit) (rights : List (List OwnLit)) (k : ℕ) (d : List OwnLit) (cs : List (List OwnLit)) → d ≡ get_or rights k d → k < length rights

@@ -1,22 +1,15 @@
 -- Clauses that are to be stored for given ones, and clauses that are taken out.
-use Rattle.std.specs.Prelude.{◌≡◌, ℕ, true, List, map, filter}
+use Rattle.std.specs.Prelude.{◌≡◌, ℕ, List, map, filter}
 use Rattle.sat_lits.specs.declared.literal.OwnLit.{OwnLit}
 use Rattle.clause_store.specs.Store.{Held, hard_of}
 use Rattle.var_maps.specs.Maps.{Maps}
-use Rattle.state_laws.specs.Held.{own_clauses, in_own, hard_clause, numbers, touches}
+use Rattle.state_laws.specs.Held.{own_clauses, numbers, touches}
 use Rattle.state_laws.specs.Resolution.{mentions}
-use Rattle.removed_vars.specs.declared.changes.Fresh.{Fresh}
 use Rattle.private_state.specs.declared.take_out.TakenOut.{TakenOut}
-use Rattle.removed_vars.specs.Fresh.{in_clauses, are_distinct}
 
 -- clauses in own literals
 abbrev pub Clauses : Type 0
 Clauses = List (List OwnLit)
-
--- what is to be stored are these clauses, all hard, and no literal stands twice in one
-pub record Stores (m : Maps) (fresh : List Fresh) (cs : List (List OwnLit)) : Type 0 where
-  pub become : map (in_own m) (in_clauses fresh) ≡ map hard_clause cs
-  pub distinct : are_distinct fresh ≡ true
 
 -- of stored clauses the ids were taken, and the hard ones in own literals
 pub record Takes (m : Maps) (held : List Held) (to : TakenOut) : Type 0 where

@@ -6,7 +6,8 @@ ghost use Rattle.state_laws.specs.Moves.{eliminated};
 ghost use Rattle.state_laws.specs.Resolution.{mentions, resolvents};
 ghost use Rattle.state_laws.specs.Kernel.{state_of, plain_kernel, Keeps};
 ghost use Rattle.private_state.specs.Bounds.{meets_bound};
-ghost use Rattle.private_state.specs.Resolving.{Stores, TakesOut};
+ghost use Rattle.removed_vars.specs.Fresh.{Stores};
+ghost use Rattle.private_state.specs.Resolving.{TakesOut};
 
 use crate::resolve::{resolve, resolve_within_bound};
 use crate::state::PrivateState;

@@ -6,7 +6,8 @@ ghost use Rattle.rebuild_stack.specs.declared.entry.Root.TheVariants.{Last};
 ghost use Rattle.state_laws.specs.Held.{has_inner};
 ghost use Rattle.state_laws.specs.Resolution.{has_sign, without_var, rests, joins, resolvents};
 ghost use Rattle.private_state.specs.Bounds.{are_bounded};
-ghost use Rattle.private_state.specs.Resolving.{Stores, Clauses};
+ghost use Rattle.removed_vars.specs.Fresh.{Stores};
+ghost use Rattle.private_state.specs.Resolving.{Clauses};
 
 use crate::bound::{are_few, are_short};
 use rebuild_stack::{Block, Root};

@@ -1,7 +1,7 @@
 use Rattle.std.proofs.Common.{◌++◌, ◌∷◌, [], sym, subst, List, take}
 use Rattle.sat_lits.specs.declared.literal.OwnLit.{OwnLit}
 use Rattle.state_laws.specs.Resolution.{joins}
-use Rattle.private_state.specs.Resolving.{Stores}
+use Rattle.removed_vars.specs.Fresh.{Stores}
 use Rattle.private_state.proofs.Resolving.{joins_right}
 use Rattle.private_state.proofs.resolve.add_each_joined.Goals as goal
 

@@ -1,6 +1,7 @@
 use Rattle.std.proofs.Common.{◌++◌, ◌∷◌, [], take}
 use Rattle.state_laws.specs.Resolution.{joins}
-use Rattle.private_state.specs.Resolving.{Clauses, Stores}
+use Rattle.removed_vars.specs.Fresh.{Stores}
+use Rattle.private_state.specs.Resolving.{Clauses}
 use Rattle.private_state.proofs.resolve.add_each_joined.Given as goal
 
 abbrev pub invariant-each : goal.invariant-each

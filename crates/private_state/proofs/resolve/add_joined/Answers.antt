@@ -4,7 +4,7 @@ use Rattle.std.proofs.lemmas.Bool.{and_from}
 use Rattle.rebuild_stack.specs.declared.entry.Root.TheVariants.{Last}
 use Rattle.state_laws.specs.Held.{has_inner}
 use Rattle.removed_vars.specs.CollectLaws.{put_active, put_distinct}
-use Rattle.private_state.proofs.Resolving.{stores_more}
+use Rattle.removed_vars.specs.CollectLaws.{stores_more}
 use Rattle.private_state.proofs.resolve.add_joined.Goals as goal
 
 pub in_lits-requires : goal.in_lits-requires

@@ -1,6 +1,6 @@
 use Rattle.std.proofs.Common.{take}
 use Rattle.state_laws.specs.Resolution.{joins}
-use Rattle.private_state.specs.Resolving.{Stores}
+use Rattle.removed_vars.specs.Fresh.{Stores}
 use Rattle.private_state.proofs.resolve.join_all.Given as goal
 
 abbrev pub invariant-each : goal.invariant-each

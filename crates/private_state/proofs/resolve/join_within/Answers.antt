@@ -2,7 +2,7 @@ use Rattle.std.proofs.Common.{◌≡◌, ◌≤◌, ◌+◌, sym, subst, arith, 
 use Rattle.std.proofs.lemmas.Bool.{lt-leb}
 use Rattle.sat_lits.specs.declared.literal.OwnLit.{OwnLit}
 use Rattle.state_laws.specs.Resolution.{joins}
-use Rattle.private_state.specs.Resolving.{Stores}
+use Rattle.removed_vars.specs.Fresh.{Stores}
 use Rattle.private_state.proofs.Resolving.{joins_left, joins_fewer, same_sizes}
 use Rattle.private_state.proofs.resolve.join_within.Goals as goal
 

@@ -3,7 +3,7 @@ use Rattle.std.specs.Global.{Vec}
 use Rattle.std.specs.List.{list_all}
 use Rattle.state_laws.specs.Resolution.{resolvents}
 use Rattle.removed_vars.specs.declared.changes.Fresh.{Fresh}
-use Rattle.private_state.specs.Resolving.{Stores}
+use Rattle.removed_vars.specs.Fresh.{Stores}
 use Rattle.private_state.proofs.Resolving.{bounded_short}
 use Rattle.private_state.proofs.resolve.resolve_within_bound.Goals as goal
 

@@ -13,7 +13,8 @@ use Rattle.state_laws.specs.KernelEliminateLaws.{Elimination, eliminated_state, 
 use Rattle.removed_vars.specs.declared.changes.Fresh.{Fresh}
 use Rattle.removed_vars.specs.Fresh.{in_clauses}
 use Rattle.removed_vars.specs.Removed.{Removed}
-use Rattle.private_state.specs.Resolving.{Stores, TakesOut}
+use Rattle.removed_vars.specs.Fresh.{Stores}
+use Rattle.private_state.specs.Resolving.{TakesOut}
 use Rattle.private_state.specs.Kept.{kernel_of}
 use Rattle.private_state.specs.MovingLaws.{plain-Standing, active_unnamed, rolled_kernel}
 use Rattle.private_state.proofs.state.PrivateState.move_out.Goals as goal
