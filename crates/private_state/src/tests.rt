@@ -11,7 +11,7 @@ ghost use Rattle.parity_forms.specs.Parities.{ParityTakable, IsDefinable};
 
 use crate::{Definition, PrivateState};
 use clause_store::ClauseStore;
-use rebuild_stack::Entry;
+use rebuild_stack::{Entry, Root};
 use sat_lits::{ClauseId, InLit, Inner, Item, List, Lit, NoMemory, Own, OwnLit, Var};
 use std::alloc::Global;
 use std::process::Abort;
@@ -271,17 +271,19 @@ fn a_private_variable_is_the_next_own_one(rt: HostRuntime) -> Result<(), Fail> {
     Ok(())
 }
 
-/// Whether these two clauses are held, in order, and no other.
-fn holds_two(store: &ClauseStore, one: [InLit; 2], two: [InLit; 2]) -> bool {
-    let Some(first) = store.first() else {
-        return false;
-    };
-    let Some(second) = store.after(first) else {
-        return false;
-    };
-    store.lits(first) == one.as_slice()
-        && store.lits(second) == two.as_slice()
-        && store.after(second).is_none()
+/// Whether these clauses are held, in order, and no other.
+fn holds(store: &ClauseStore, clauses: &[[InLit; 2]]) -> bool {
+    let mut at = store.first();
+    'each: for lits in clauses {
+        let Some(id) = at else {
+            return false;
+        };
+        if store.lits(id) != lits.as_slice() {
+            return false;
+        }
+        at = store.after(id);
+    }
+    at.is_none()
 }
 
 fn in_lit(var: u32, negative: bool) -> InLit {
@@ -292,24 +294,34 @@ fn in_lit(var: u32, negative: bool) -> InLit {
 }
 
 #[test]
-fn an_eliminated_variable_leaves_its_resolvents(rt: HostRuntime) -> Result<(), Fail> {
+fn an_eliminated_variable_leaves_its_resolvents_and_comes_back(rt: HostRuntime) -> Result<(), Fail> {
     let mut state = new_state(rt.alloc(), 3)?;
     take(rt.alloc(), &mut state, &[FIRST, SECOND])?;
     take(rt.alloc(), &mut state, &[FIRST, NOT_SECOND])?;
     take(rt.alloc(), &mut state, &[NOT_FIRST, THIRD])?;
     state.eliminate(Own(0))?;
 
-    let store = state.clauses();
-    assert!(rt;
-        holds_two(
-            store,
-            [in_lit(1, false), in_lit(2, false)],
-            [in_lit(1, true), in_lit(2, false)]
-        )
-    );
+    let resolvents = [
+        [in_lit(1, false), in_lit(2, false)],
+        [in_lit(1, true), in_lit(2, false)],
+    ];
+    assert!(rt; holds(state.clauses(), &resolvents));
     assert_eq!(rt; state.is_eliminated(Own(0)), true);
     assert_eq!(rt; state.occurrences(Inner(0)).len(), 3);
     let values = model(&rt, &state, &[false, false, true])?;
     assert_eq!(rt; values.as_slice(), [true, false, true].as_slice());
+
+    state.restore_one(Own(0))?;
+    assert_eq!(rt; state.is_active(Own(0)), true);
+    assert_eq!(rt; state.stack().entries().len(), 0);
+    assert_eq!(rt; state.root(OWN_NOT_FIRST), Root::Last(OWN_NOT_FIRST));
+    let restored = [
+        [in_lit(1, false), in_lit(2, false)],
+        [in_lit(1, true), in_lit(2, false)],
+        [in_lit(0, false), in_lit(1, false)],
+        [in_lit(0, false), in_lit(1, true)],
+        [in_lit(0, true), in_lit(2, false)],
+    ];
+    assert!(rt; holds(state.clauses(), &restored));
     Ok(())
 }

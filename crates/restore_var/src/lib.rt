@@ -9,5 +9,7 @@
 mod bring_back;
 mod marks;
 mod needed;
+#[cfg(test)]
+mod tests;
 
 pub use bring_back::restore;
