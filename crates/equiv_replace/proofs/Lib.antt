@@ -12,3 +12,4 @@ pub mod Replacing
 pub mod Starting
 pub mod NoCycles
 pub mod Ending
+pub mod TestLiterals
