@@ -30,6 +30,6 @@ HasSamePassed old new = (v : ℕ) → is_passed new v ≡ is_passed old v
 abbrev pub fitting : List (Option Preference) → ℕ → ℕ → ℕ
 fitting known v by = if fits_in known v by then by else rescaled_increment by
 
--- the increment after a conflict: a part in 16 more, up to 2 ^ 62
+-- the increment after a conflict: a part in 64 more, up to 2 ^ 62
 abbrev pub grown_increment : ℕ → ℕ
-grown_increment by = min (by + by / 16) (2 ^ 62)
+grown_increment by = min (by + by / 64) (2 ^ 62)

@@ -23,8 +23,9 @@ const LIMIT: u64 = 1 << 62;
 const LEAST: u64 = 1 << 10;
 
 /// A conflict raises the increment by one part in so many. (In floating point an increment that is
-/// divided by 0.95 after each conflict is usual: Eén and Sörensson, 2003.)
-const GROWTH: u64 = 16;
+/// divided by 0.95 after each conflict is usual: Eén and Sörensson, 2003. Here learned clauses are
+/// kept by age, and a slower growth takes fewer conflicts.)
+const GROWTH: u64 = 64;
 
 /// The active variables, each with an activity and a phase, in the order in which they are decided.
 /// Those that a decision passed over as set are no candidates until they are put back.
@@ -176,7 +177,7 @@ impl PickOrder {
         self.increment = by;
     }
 
-    /// Raises the increment by a part in 16, up to 2^62, so that variables that are bumped later
+    /// Raises the increment by a part in 64, up to 2^62, so that variables that are bumped later
     /// come before those that were bumped as often earlier. This is for the end of each conflict.
     pub fn grow_increment(&mut self)
         ensures { self.new ≡ record self.old { increment = grown_increment self.old.increment } }

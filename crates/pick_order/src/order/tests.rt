@@ -162,7 +162,7 @@ fn a_later_bump_counts_more(rt: HostRuntime) -> Result<(), Fail> {
     order.grow_increment();
     bump(&rt, &mut order, 1);
     assert_eq!(rt; activity_of(&order, 0), Some(1024));
-    assert_eq!(rt; activity_of(&order, 1), Some(1024 + 1088));
+    assert_eq!(rt; activity_of(&order, 1), Some(1024 + 1040));
     Ok(())
 }
 
@@ -173,7 +173,7 @@ fn activities_are_halved_at_the_limit(rt: HostRuntime) -> Result<(), Fail> {
     bump(&rt, &mut order, 1);
     let mut last = Some(0);
     let mut halved = false;
-    for _conflict in 0..2000_u32 {
+    for _conflict in 0..4000_u32 {
         bump(&rt, &mut order, 0);
         order.grow_increment();
         let activity = activity_of(&order, 0);
