@@ -161,18 +161,19 @@ one_touches m lits l id e = go (touches m l.var.0 (held_as id false lits)) (ap (
 -- where one literal is held and then fixed, its clause goes again, and the others keep their ids but for those that hold its variable
 pub fixed_keeps : (k h n : Kernel) (e : Shared) (lits : List InLit) (id : ℕ) (l : OwnLit) → Holds k h e lits id → own_clause k.maps lits ≡ l ∷ [] → Keeps h n l.var.0 → plain n.maps ≡ plain (retired l.var.0 h.maps)
     → Keeps k n l.var.0 × (plain n.maps ≡ plain (retired l.var.0 k.maps))
-fixed_keeps k h n e lits id l x o y p =
-    (record {
-      news = y.news;
-      held = y.held
-          ∙ ap (λ (z : List Held). z ++ y.news)
-          (ap₂ (λ (m : Maps) (hs : List Held). filter (λ (c : Held). not (touches m l.var.0 c)) hs) maps x.held
-          ∙ (filter-append (λ (c : Held). not (touches k.maps l.var.0 c)) k.store.held (held_as id false lits ∷ [])
-          ∙ (ap (λ (z : List Held). filter (λ (c : Held). not (touches k.maps l.var.0 c)) k.store.held ++ z) (one_touches k.maps lits l id o) ∙ append-nil (filter (λ (c : Held). not (touches k.maps l.var.0 c)) k.store.held))));
-      fresh = all_mono (λ (c : Held). nat_le h.store.given c.id) (λ (c : Held). nat_le k.store.given c.id)
-          (λ c g. let a : k.store.given ≤ id = x.fresh in let b : id < h.store.given = x.given in let d : h.store.given ≤ c.id = leb-true _ _ g in le-leb _ _ (omega arith)) y.news y.fresh;
-    },
-    p ∙ ap (λ (m : Maps). plain (retired l.var.0 m)) maps)
+fixed_keeps k h n e lits id l x o y p = (
+  record {
+    news = y.news;
+    held = y.held
+        ∙ ap (λ (z : List Held). z ++ y.news)
+        (ap₂ (λ (m : Maps) (hs : List Held). filter (λ (c : Held). not (touches m l.var.0 c)) hs) maps x.held
+        ∙ (filter-append (λ (c : Held). not (touches k.maps l.var.0 c)) k.store.held (held_as id false lits ∷ [])
+        ∙ (ap (λ (z : List Held). filter (λ (c : Held). not (touches k.maps l.var.0 c)) k.store.held ++ z) (one_touches k.maps lits l id o) ∙ append-nil (filter (λ (c : Held). not (touches k.maps l.var.0 c)) k.store.held))));
+    fresh = all_mono (λ (c : Held). nat_le h.store.given c.id) (λ (c : Held). nat_le k.store.given c.id)
+        (λ c g. let a : k.store.given ≤ id = x.fresh in let b : id < h.store.given = x.given in let d : h.store.given ≤ c.id = leb-true _ _ g in le-leb _ _ (omega arith)) y.news y.fresh;
+  },
+  p ∙ ap (λ (m : Maps). plain (retired l.var.0 m)) maps,
+)
   where
     maps : h.maps ≡ k.maps
     maps = ap (λ (z : Kernel). z.maps) x.is

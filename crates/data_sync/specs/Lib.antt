@@ -1,0 +1,14 @@
+pub mod Books
+pub mod Taking
+pub mod Giving
+pub mod Syncs
+pub mod ReaderKept
+pub mod OfferedKept
+pub mod BookKept
+pub mod TakingLaws
+pub mod ReadLaws
+pub mod GivingLaws
+pub mod OfferLaws
+pub mod BinaryLaws
+pub mod HeardLaws
+pub mod SyncLaws
