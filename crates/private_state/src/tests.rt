@@ -294,7 +294,9 @@ fn in_lit(var: u32, negative: bool) -> InLit {
 }
 
 #[test]
-fn an_eliminated_variable_leaves_its_resolvents_and_comes_back(rt: HostRuntime) -> Result<(), Fail> {
+fn an_eliminated_variable_leaves_its_resolvents_and_comes_back(
+    rt: HostRuntime,
+) -> Result<(), Fail> {
     let mut state = new_state(rt.alloc(), 3)?;
     take(rt.alloc(), &mut state, &[FIRST, SECOND])?;
     take(rt.alloc(), &mut state, &[FIRST, NOT_SECOND])?;
