@@ -37,6 +37,7 @@ enum Topic {
     OneModel,
     UnderAssumptions,
     AskedAgain,
+    EquivalentVariables,
     Parities,
     ParitiesAlone,
     MoreAfterAnswers,
@@ -51,11 +52,12 @@ enum Topic {
 }
 
 /// The topics in order.
-const TOPICS: [Topic; 15] = [
+const TOPICS: [Topic; 16] = [
     Topic::FirstQuestion,
     Topic::OneModel,
     Topic::UnderAssumptions,
     Topic::AskedAgain,
+    Topic::EquivalentVariables,
     Topic::Parities,
     Topic::ParitiesAlone,
     Topic::MoreAfterAnswers,
@@ -94,6 +96,7 @@ fn show_on<R: Print + AllocGlobal + Threads + Sync>(
         Topic::OneModel => one_model(rt, solver),
         Topic::UnderAssumptions => under_assumptions(rt, solver),
         Topic::AskedAgain => asked_again(rt, solver),
+        Topic::EquivalentVariables => equivalent_variables(rt, solver),
         Topic::Parities => a_parity_more(rt, solver),
         Topic::ParitiesAlone => parities_alone(rt, solver),
         Topic::MoreAfterAnswers => more_after_answers(rt, solver),
@@ -192,6 +195,27 @@ fn asked_again<R: Print + AllocGlobal + Threads + Sync>(
     ask(rt, solver)?;
     read(rt, solver)?;
     read_okay(rt, solver)?;
+    ask_under(rt, solver, &[2])?;
+    read(rt, solver)
+}
+
+/// Variables that the clauses make equal, in questions one after another.
+fn equivalent_variables<R: Print + AllocGlobal + Threads + Sync>(
+    rt: &R,
+    solver: &mut SatSolver,
+) -> Result<(), TourError> {
+    println!(rt; "# Equivalent variables")?;
+    new_vars(rt, solver, 2)?;
+    add_clause(rt, solver, &[1, -2])?;
+    add_clause(rt, solver, &[-1, 2])?;
+    ask_under(rt, solver, &[1])?;
+    read(rt, solver)?;
+    ask_under(rt, solver, &[1, -2])?;
+    read(rt, solver)?;
+    read_okay(rt, solver)?;
+    add_clause(rt, solver, &[-1])?;
+    ask(rt, solver)?;
+    read(rt, solver)?;
     ask_under(rt, solver, &[2])?;
     read(rt, solver)
 }

@@ -101,6 +101,28 @@ fn pigeons(alloc: Global, pigeons: u32, holes: u32) -> Result<Formula, Fail> {
     Ok(formula)
 }
 
+fn push_both(formula: &mut Formula, first: u32, second: u32) -> Result<(), Fail> {
+    let lit = |var: u32, negative: bool| Lit {
+        var: Var(var),
+        negative,
+    };
+    formula.push_clause(&[lit(first, false), lit(second, false)])?;
+    formula.push_clause(&[lit(first, true), lit(second, true)])?;
+    Ok(())
+}
+
+/// Clauses of so many variables, of which each is the negation of the next one, and the last one
+/// the negation of the first.
+fn ring(alloc: Global, vars: u32) -> Result<Formula, Fail> {
+    let mut formula = Formula::new(alloc, Limits::standard());
+    formula.grow(vars)?;
+    for var in 1..vars {
+        push_both(&mut formula, var - 1, var)?;
+    }
+    push_both(&mut formula, vars.wrapping_sub(1), 0)?;
+    Ok(formula)
+}
+
 /// One interval of a call that is under way, without a limit.
 fn step(solver: &mut OneSolver) -> StepAnswer
     requires { IsUnderWay solver.old }
@@ -219,5 +241,21 @@ fn each_interval_is_longer_than_the_last(rt: HostRuntime) -> Result<(), Fail> {
     solver.pour(&mut tally);
     assert_eq!(rt; tally.count(), 220);
     assert_eq!(rt; solver.conflicts(), 0);
+    Ok(())
+}
+
+#[test]
+fn opposite_literals_of_an_even_ring_fail_together(rt: HostRuntime) -> Result<(), Fail> {
+    let formula = ring(rt.alloc(), 1000)?;
+    let failed = failed_of(&rt, rt.alloc(), &formula, &[literal(1), literal(2)])?;
+    assert_eq!(rt; failed.as_slice(), [literal(1), literal(2)].as_slice());
+    Ok(())
+}
+
+#[test]
+fn an_odd_ring_has_no_model(rt: HostRuntime) -> Result<(), Fail> {
+    let formula = ring(rt.alloc(), 999)?;
+    let failed = failed_of(&rt, rt.alloc(), &formula, &[])?;
+    assert!(rt; failed.as_slice().is_empty());
     Ok(())
 }
