@@ -8,6 +8,7 @@ pub mod BookKept
 pub mod TakingLaws
 pub mod ReadLaws
 pub mod GivingLaws
+pub mod StepLaws
 pub mod OfferLaws
 pub mod BinaryLaws
 pub mod HeardLaws

@@ -1,9 +1,10 @@
-ghost use Rattle.std.specs.Prelude.{◌≡◌, ◌+◌, [], IfOk, OnOk, length};
+ghost use Rattle.std.specs.Prelude.{◌≡◌, ◌+◌, IfOk, OnOk, length};
 ghost use Rattle.sat_lits.specs.Logs.{IsLegalLog};
 ghost use Rattle.state_laws.specs.State.{problem_of};
 ghost use Rattle.state_laws.specs.Kernel.{state_of};
 ghost use Rattle.sync_laws.specs.Steps.{IsSettled};
 ghost use Rattle.data_sync.specs.Taking.{IsRead, others};
+ghost use Rattle.data_sync.specs.Books.{no_book};
 ghost use Rattle.data_sync.specs.Syncs.{InStepWith, Synced};
 
 use crate::binaries::offer_binaries;
@@ -49,7 +50,7 @@ impl Model for SyncBook {
 impl SyncBook {
     /// Nothing was read, nothing waits, and nothing was offered. It takes no memory.
     pub fn new(alloc: Global) -> SyncBook
-        ensures { result ≡ record { cursor = 0; waiting = []; fixed = []; pairs = [] } }
+        ensures { result ≡ no_book }
     {
         SyncBook {
             reader: LogReader::new(alloc),

@@ -11,7 +11,10 @@ mod binaries;
 mod book;
 mod fixed;
 mod importing;
+pub mod laws;
 mod offered;
 mod reader;
+#[cfg(test)]
+mod tests;
 
 pub use book::{Report, SyncBook};
