@@ -1,7 +1,7 @@
 //! What is said on standard error where the program cannot do its work.
 
-use crate::status::{FAULTY_WORDS, NO_WORDS, OUT_OF_MEMORY, READ_FAILED, WRITE_FAILED};
-use crate::words::read_words;
+use sat_run::read_words;
+use sat_run::status::{FAULTY_WORDS, NO_WORDS, OUT_OF_MEMORY, READ_FAILED, WRITE_FAILED};
 use std::fmt;
 
 /// What the program could not do, as it is said on standard error.

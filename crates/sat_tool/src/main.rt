@@ -1,24 +1,13 @@
-//! Reads a DIMACS CNF text from standard input, and writes whether it can be satisfied.
+//! Reads a DIMACS text with questions from standard input, and writes an answer to each of them.
 #![tactic(auto)]
 
-mod answer;
-mod carry;
 mod complaint;
-mod failures;
-mod read;
-mod report;
-mod run;
-mod status;
-#[cfg(test)]
-mod tests;
-mod words;
-mod write;
 
 use complaint::Complaint;
-use run::run;
 use sat_api::SatSolver;
 use sat_ports::{Silent, StdSink, StdSource};
-use status::{NO_WORDS, OUT_OF_MEMORY};
+use sat_run::run;
+use sat_run::status::{NO_WORDS, OUT_OF_MEMORY};
 use std::process::ExitCode;
 use std::rt::Env;
 use std::thread::Threads;

@@ -1,0 +1,171 @@
+-- How parts of a run join.
+use Rattle.std.proofs.Common.{◌≡◌, ℕ, ◌+◌, ◌≤◌, List, [], ◌∷◌, ◌++◌, take, refl, sym, ap, ◌∙◌, subst, append_assoc, append-nil, arith}
+use Rattle.std.specs.declared.option.Option.{Option}
+use Rattle.std.specs.Io.KnownBytes.{Appends}
+use Rattle.std.proofs.KnownBytes.{Appends-nil, Appends-trans}
+use Rattle.sat_lits.specs.Meaning.{Problem}
+use Rattle.sat_ports.specs.Causes.{Rose, RoseBy}
+use Rattle.sat_api.specs.State.{SolverState}
+use Rattle.dimacs_text.specs.declared.command.Command.{Command}
+use Rattle.sat_run.specs.Questions.{Question, questions_from, after, after_all, asked}
+use Rattle.sat_run.specs.Reports.{AreRight, blocks_text, text_of_report, conflicts_of_all}
+use Rattle.sat_run.specs.Writing.{Port}
+use Rattle.sat_run.specs.World.{World, KeepsSettings, Tells, Carries, StopsAmong, IsCut, IsHaltOf}
+use Rattle.sat_run.specs.declared.report.Report.{Report}
+use Rattle.sat_run.specs.declared.failures.Halt.{Halt}
+use Rattle.sat_run.specs.declared.failures.Halt.TheVariants.{Memory, Write}
+
+rose_then : (m n a b c : ℕ) → RoseBy m a b → RoseBy n b c → RoseBy (m + n) a c
+rose_then m n a b c p q = omega arith
+
+rose_once : (a b c : ℕ) → b ≡ a → Rose b c → Rose a c
+rose_once a b c e p = omega arith
+
+pub questions_from-append : (f : Problem) (cs ds : List Command) → questions_from f (cs ++ ds) ≡ questions_from f cs ++ questions_from (after_all f cs) ds
+questions_from-append f [] ds = refl
+questions_from-append f (c ∷ cs) ds =
+    ap (λ (qs : List Question). asked f c ++ qs) (questions_from-append (after f c) cs ds) ∙ sym (append_assoc (asked f c) (questions_from (after f c) cs) (questions_from (after_all (after f c) cs) ds))
+
+pub after_all-append : (f : Problem) (cs ds : List Command) → after_all f (cs ++ ds) ≡ after_all (after_all f cs) ds
+after_all-append f [] ds = refl
+after_all-append f (c ∷ cs) ds = after_all-append (after f c) cs ds
+
+pub blocks_text-append : (rs ss : List Report) → blocks_text (rs ++ ss) ≡ blocks_text rs ++ blocks_text ss
+blocks_text-append [] ss = refl
+blocks_text-append (r ∷ rs) ss = ap (λ (xs : List ℕ). text_of_report r ++ xs) (blocks_text-append rs ss) ∙ sym (append_assoc (text_of_report r) (blocks_text rs) (blocks_text ss))
+
+conflicts_of_all-append : (rs ss : List Report) → conflicts_of_all (rs ++ ss) ≡ conflicts_of_all rs + conflicts_of_all ss
+conflicts_of_all-append [] ss = omega arith
+conflicts_of_all-append (r ∷ rs) ss = let e = conflicts_of_all-append rs ss in omega arith
+
+right-append : (limit : Option ℕ) (qs ps : List Question) (rs ss : List Report) → AreRight limit qs rs → AreRight limit ps ss → AreRight limit (qs ++ ps) (rs ++ ss)
+right-append limit [] ps [] ss p q = q
+right-append limit [] ps (r ∷ rs) ss p q = absurd p
+right-append limit (x ∷ qs) ps [] ss p q = absurd p
+right-append limit (x ∷ qs) ps (r ∷ rs) ss p q = (p.0, right-append limit qs ps rs ss p.1 q)
+
+settings_then : (s t u : SolverState) → KeepsSettings s t → KeepsSettings t u → KeepsSettings s u
+settings_then s t u p q = record { limits = q.limits ∙ p.limits; max_conflicts = q.max_conflicts ∙ p.max_conflicts }
+
+-- nothing is told of no question
+pub tells_none : (a b : World) → a.solver.counted ≤ b.solver.counted → b.raised ≡ a.raised → KeepsSettings a.solver b.solver → Tells [] [] a b
+tells_none a b counted quiet settings = record { right = tt; counted = omega arith; unasked = quiet; settings = settings }
+
+-- two parts that tell of their questions, one after the other
+pub tells_then : (qs ps : List Question) (rs ss : List Report) (a b c : World) → Tells qs rs a b → Tells ps ss b c → Tells (qs ++ ps) (rs ++ ss) a c
+tells_then qs ps rs ss a b c p q =
+    record {
+      right = right-append a.solver.max_conflicts qs ps rs ss p.right (subst (λ (limit : Option ℕ). AreRight limit ps ss) p.settings.max_conflicts q.right);
+      counted = subst (λ (n : ℕ). RoseBy n a.solver.counted c.solver.counted) (sym (conflicts_of_all-append rs ss)) (rose_then _ _ a.solver.counted b.solver.counted c.solver.counted p.counted q.counted);
+      unasked = q.unasked ∙ p.unasked;
+      settings = settings_then a.solver b.solver c.solver p.settings q.settings;
+    }
+
+-- where no command was carried out, nothing is written
+pub carries_none : (a : World) → Carries [] a a
+carries_none a = record {
+  reports = [];
+  tells = tells_none a a (omega arith) refl (record { limits = refl; max_conflicts = refl });
+  written = Appends-nil a.sink.bytes;
+  kept = refl;
+  problem = refl;
+}
+
+-- commands that were carried out behind others
+pub carries_then : (cs ds : List Command) (a b c : World) → Carries cs a b → Carries ds b c → Carries (cs ++ ds) a c
+carries_then cs ds a b c p q =
+    record {
+      reports = p.reports ++ q.reports;
+      tells =
+          subst (λ (qs : List Question). Tells qs (p.reports ++ q.reports) a c)
+          (ap (λ (f : Problem). questions_from a.solver.problem cs ++ questions_from f ds) p.problem ∙ sym (questions_from-append a.solver.problem cs ds))
+          (tells_then (questions_from a.solver.problem cs) (questions_from b.solver.problem ds) p.reports q.reports a b c p.tells q.tells);
+      written =
+          subst (Appends a.sink.bytes c.sink.bytes) (sym (blocks_text-append p.reports q.reports))
+          (Appends-trans a.sink.bytes b.sink.bytes c.sink.bytes _ _ p.written q.written);
+      kept = q.kept ∙ p.kept;
+      problem = q.problem ∙ ap (λ (f : Problem). after_all f ds) p.problem ∙ sym (after_all-append a.solver.problem cs ds);
+    }
+
+cut_after : (h : Halt) (before reports : List Report) (text : List ℕ) → IsCut h reports text → IsCut h (before ++ reports) (blocks_text before ++ text)
+cut_after Memory before reports text e = ap (λ (xs : List ℕ). blocks_text before ++ xs) e ∙ sym (blocks_text-append before reports)
+cut_after Write before reports text c = (
+  before ++ c.0,
+  c.1,
+  c.2,
+  ap (λ (rs : List Report). before ++ rs) c.3 ∙ sym (append_assoc before c.0 (c.1 ∷ [])),
+  ap (λ (xs : List ℕ). blocks_text before ++ xs) c.4 ∙ sym (append_assoc (blocks_text before) (blocks_text c.0) (take c.2 (text_of_report c.1)))
+      ∙ ap (λ (xs : List ℕ). xs ++ take c.2 (text_of_report c.1)) (sym (blocks_text-append before c.0)),
+)
+
+halt_after : (h : Halt) (a b c : Port) → b.faults ≡ a.faults → IsHaltOf h b c → IsHaltOf h a c
+halt_after Memory a b c e h = h ∙ e
+halt_after Write a b c e h = rose_once a.faults b.faults c.faults e h
+
+-- a stop behind questions that were all answered
+pub stops_after : (h : Halt) (qs ps : List Question) (rs : List Report) (a b c : World) → Tells qs rs a b → Appends a.sink.bytes b.sink.bytes (blocks_text rs) → b.sink.faults ≡ a.sink.faults → StopsAmong h ps b c
+    → StopsAmong h (qs ++ ps) a c
+stops_after h qs ps rs a b c tells written kept s =
+    record {
+      answered = qs ++ s.answered;
+      rest = s.rest;
+      all = ap (λ (xs : List Question). qs ++ xs) s.all ∙ sym (append_assoc qs s.answered s.rest);
+      reports = rs ++ s.reports;
+      tells = tells_then qs s.answered rs s.reports a b c tells s.tells;
+      text = blocks_text rs ++ s.text;
+      cut = cut_after h rs s.reports s.text s.cut;
+      written = Appends-trans a.sink.bytes b.sink.bytes c.sink.bytes _ _ written s.written;
+      cause = halt_after h a.sink b.sink c.sink kept s.cause;
+    }
+
+-- a stop stays one where more was to be asked
+pub stops_more : (h : Halt) (qs ps : List Question) (a b : World) → StopsAmong h qs a b → StopsAmong h (qs ++ ps) a b
+stops_more h qs ps a b s =
+    record {
+      answered = s.answered;
+      rest = s.rest ++ ps;
+      all = ap (λ (xs : List Question). xs ++ ps) s.all ∙ append_assoc s.answered s.rest ps;
+      reports = s.reports;
+      tells = s.tells;
+      text = s.text;
+      cut = s.cut;
+      written = s.written;
+      cause = s.cause;
+    }
+
+-- memory ran out before anything was asked
+pub stops_here : (qs : List Question) (a b : World) → a.solver.counted ≤ b.solver.counted → b.raised ≡ a.raised → KeepsSettings a.solver b.solver → b.sink ≡ a.sink → StopsAmong Memory qs a b
+stops_here qs a b counted quiet settings same =
+    record {
+      answered = [];
+      rest = qs;
+      all = refl;
+      reports = [];
+      tells = tells_none a b counted quiet settings;
+      text = [];
+      cut = refl;
+      written = subst (λ (x : Port). Appends a.sink.bytes x.bytes []) (sym same) (Appends-nil a.sink.bytes);
+      cause = ap (λ (x : Port). x.faults) same;
+    }
+
+-- a stop among commands behind others that were carried out
+pub stops_commands : (h : Halt) (cs ds : List Command) (a b c : World) → Carries cs a b → StopsAmong h (questions_from b.solver.problem ds) b c → StopsAmong h (questions_from a.solver.problem (cs ++ ds)) a c
+stops_commands h cs ds a b c p s =
+    subst (λ (qs : List Question). StopsAmong h qs a c)
+    (ap (λ (f : Problem). questions_from a.solver.problem cs ++ questions_from f ds) p.problem ∙ sym (questions_from-append a.solver.problem cs ds))
+    (stops_after h (questions_from a.solver.problem cs) (questions_from b.solver.problem ds) p.reports a b c p.tells p.written p.kept s)
+
+-- memory ran out behind commands that were carried out
+pub stops_done : (cs : List Command) (a b : World) → Carries cs a b → StopsAmong Memory (questions_from a.solver.problem cs) a b
+stops_done cs a b p =
+    record {
+      answered = questions_from a.solver.problem cs;
+      rest = [];
+      all = sym (append-nil (questions_from a.solver.problem cs));
+      reports = p.reports;
+      tells = p.tells;
+      text = blocks_text p.reports;
+      cut = refl;
+      written = p.written;
+      cause = p.kept;
+    }

@@ -1,0 +1,11 @@
+pub mod Options
+pub mod Refusals
+pub mod Verdicts
+pub mod Joins
+pub mod Done
+pub mod Room
+pub mod Made
+pub mod Closing
+pub mod Pieces
+pub mod Taken
+pub mod Ran

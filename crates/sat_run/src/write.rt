@@ -1,0 +1,58 @@
+ghost use Rattle.std.specs.Prelude.{◌≡◌, ◌++◌, OnOk, OnErr};
+ghost use Rattle.std.specs.Io.KnownBytes.{Appends};
+ghost use Rattle.sat_ports.specs.Causes.{HasCause};
+ghost use Rattle.sat_ports.specs.Writes.{AppendsFront};
+ghost use Rattle.dimacs_text.specs.Texts.{text_of_refusal};
+ghost use Rattle.sat_run.specs.Writing.{port, WritesText};
+ghost use Rattle.sat_run.specs.Reports.{text_of_report};
+
+use crate::failures::Halt;
+use crate::report::Report;
+use dimacs_text::{Refusal, print_limit, print_refusal, print_verdict};
+use sat_lits::{List, NoMemory};
+use sat_ports::{Failed, Sink};
+use std::alloc::Global;
+
+/// Writes all of the bytes, or up to where a write failed.
+fn write_all<K: Sink>(sink: &mut K, bytes: &[u8]) -> Result<(), Failed>
+    ensures ok { OnOk result (Appends (K.written sink.old) (K.written sink.new) bytes.now) }
+    ensures err { OnErr result (AppendsFront (K.written sink.old) (K.written sink.new) bytes.now) }
+    ensures cause { HasCause (K.faults sink.old) (K.faults sink.new) result }
+{
+    let mut at = 0;
+    while at < bytes.len() {
+        at += sink.write(&bytes[at..])?;
+    }
+    Ok(())
+}
+
+fn print_report(to: &mut List<u8>, report: &Report) -> Result<(), NoMemory>
+    ensures { OnOk result (to.new ≡ to.old ++ text_of_report report.now) }
+{
+    match report {
+        Report::Verdict(verdict) => print_verdict(to, verdict),
+        Report::Limit(counts) => print_limit(to, counts.as_slice()),
+    }
+}
+
+/// Writes the text of a report.
+pub fn write_report<K: Sink>(alloc: Global, sink: &mut K, report: &Report) -> Result<(), Halt>
+    ensures { WritesText (text_of_report report.now) result
+        (port (K.written sink.old) (K.faults sink.old)) (port (K.written sink.new) (K.faults sink.new)) }
+{
+    let mut text = List::new(alloc);
+    print_report(&mut text, report)?;
+    write_all(sink, text.as_slice())?;
+    Ok(())
+}
+
+/// Writes the text of a refusal.
+pub fn write_refusal<K: Sink>(alloc: Global, sink: &mut K, why: &Refusal) -> Result<(), Halt>
+    ensures { WritesText (text_of_refusal why.now) result
+        (port (K.written sink.old) (K.faults sink.old)) (port (K.written sink.new) (K.faults sink.new)) }
+{
+    let mut text = List::new(alloc);
+    print_refusal(&mut text, why)?;
+    write_all(sink, text.as_slice())?;
+    Ok(())
+}
