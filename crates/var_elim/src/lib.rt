@@ -6,6 +6,8 @@ mod drop;
 mod eliminate;
 mod marks;
 mod subsume;
+#[cfg(test)]
+mod tests;
 
 pub use drop::drop_subsumed;
 pub use eliminate::eliminate_some;
