@@ -24,8 +24,8 @@ use std::thread::Threads;
 const PIECE: usize = 65536;
 
 /// Reads the source to its end, or to the end of the formula, piece by piece, and answers every
-/// question of the text.
-fn serve<R: Threads + Sync, S: Source, K: Sink, A: Alarm + Send>(
+/// question of the text. The limits are the standard ones, but for the one on input.
+pub fn serve<R: Threads + Sync, S: Source, K: Sink, A: Alarm + Send>(
     rt: &R,
     alloc: Global,
     limits: Limits,

@@ -1,8 +1,9 @@
+use crate::failures::Stop;
 use crate::report::Report;
-use crate::serve::run;
+use crate::serve::{run, serve};
 use crate::write::write_report;
 use sat_api::SatSolver;
-use sat_lits::{List, NoMemory};
+use sat_lits::{Limits, List, NoMemory};
 use sat_ports::{BytesSink, BytesSource, PlainSource, Silent, Sink, Source};
 use std::alloc::Global;
 use std::test::Fail;
@@ -245,6 +246,35 @@ fn each_text_has_its_output(rt: HostRuntime) -> Result<(), Fail> {
         );
         assert_eq!(rt; sink.bytes(), output, "at {text:?}");
     }
+    Ok(())
+}
+
+/// Serves a text of which four bytes are taken.
+fn serve_four_bytes<R: Threads + Sync + AllocGlobal, K: Sink>(
+    rt: &R,
+    text: &[u8],
+    sink: &mut K,
+) -> Result<Option<Stop>, Fail> {
+    let limits = Limits::new(16_777_215, 33_554_432, 64, 4).ok_or("limits")?;
+    let mut solver = SatSolver::new(rt.alloc());
+    let served = serve(
+        rt,
+        rt.alloc(),
+        limits,
+        &mut PlainSource::new(text),
+        sink,
+        &mut Silent::new(),
+        &mut solver,
+    );
+    Ok(served.err())
+}
+
+#[test]
+fn a_text_is_refused_behind_its_limit(rt: HostRuntime) -> Result<(), Fail> {
+    let mut sink = wide_sink(&rt, &[])?;
+    let stop = serve_four_bytes(&rt, b"1 0\n2 0\n", &mut sink)?;
+    assert_eq!(rt; stop, Some(Stop::Refused));
+    assert_eq!(rt; sink.bytes(), b"c refused too-long 4\n".as_slice());
     Ok(())
 }
 
