@@ -1,18 +1,21 @@
-ghost use Rattle.std.specs.Prelude.{◌≡◌, ◌≤◌, ◌^◌, ◌||◌, Some, IfOk, OnOk, IsTrue};
+ghost use Rattle.std.specs.Prelude.{◌≡◌, ◌≤◌, ◌^◌, ◌||◌, true, Some, IfOk, OnOk, IsTrue};
+ghost use Rattle.sat_lits.specs.Formulas.{names_known};
 ghost use Rattle.sat_lits.specs.Truth.{clause_value, clauses_value};
+ghost use Rattle.sat_lits.specs.declared.formula.Item.TheVariants.{Clause};
 ghost use Rattle.clause_store.specs.Store.{Held, clause_at, is_live, hard_of};
-ghost use Rattle.state_laws.specs.State.{no_state};
+ghost use Rattle.state_laws.specs.State.{no_state, outer_count};
 ghost use Rattle.state_laws.specs.Conditions.{Takable};
 ghost use Rattle.state_laws.specs.Moves.{grown, taken};
 ghost use Rattle.state_laws.specs.Held.{in_value};
 ghost use Rattle.state_laws.specs.Kernel.{state_of};
 ghost use Rattle.state_laws.specs.declared.definition.Definition.TheVariants.{Xor};
+ghost use Rattle.private_state.specs.Importing.{after_import};
 ghost use Rattle.parity_forms.specs.Parities.{ParityTakable, IsDefinable};
 
-use crate::{Definition, PrivateState};
+use crate::{Definition, Import, PrivateState};
 use clause_store::ClauseStore;
 use rebuild_stack::{Entry, Root};
-use sat_lits::{ClauseId, InLit, Inner, Item, List, Lit, NoMemory, Own, OwnLit, Var};
+use sat_lits::{ClauseId, InLit, Inner, Item, List, Lit, NoMemory, Own, OwnLit, Shared, Var};
 use std::alloc::Global;
 use std::process::Abort;
 use std::test::Fail;
@@ -325,5 +328,50 @@ fn an_eliminated_variable_leaves_its_resolvents_and_comes_back(
         [in_lit(0, true), in_lit(2, false)],
     ];
     assert!(rt; holds(state.clauses(), &restored));
+    Ok(())
+}
+
+/// Imports an entry with these literals.
+fn import(alloc: Global, state: &mut PrivateState, lits: &[Lit]) -> Result<Import, NoMemory>
+    requires { names_known (outer_count state.old.definitions) (Clause lits.now) ≡ true }
+    ensures { OnOk result (state_of state.new ≡ after_import (record { solver = 1; after = 0; clause = lits.now }) (state_of state.old)) }
+{
+    let entry = Shared {
+        solver: 1,
+        after: 0,
+        clause: List::from_slice(alloc, lits)?,
+    };
+    state.import(&entry)
+}
+
+/// Whether the third clause that is held is this one, and the last.
+fn holds_third(store: &ClauseStore, lit: InLit) -> bool {
+    let Some(first) = store.first() else {
+        return false;
+    };
+    let Some(second) = store.after(first) else {
+        return false;
+    };
+    let Some(third) = store.after(second) else {
+        return false;
+    };
+    store.lits(third) == [lit].as_slice() && store.after(third).is_none()
+}
+
+#[test]
+fn an_entry_waits_until_its_variable_is_back(rt: HostRuntime) -> Result<(), Fail> {
+    let mut state = new_state(rt.alloc(), 3)?;
+    take(rt.alloc(), &mut state, &[FIRST, SECOND])?;
+    take(rt.alloc(), &mut state, &[FIRST, NOT_SECOND])?;
+    take(rt.alloc(), &mut state, &[NOT_FIRST, THIRD])?;
+    state.eliminate(Own(0))?;
+    let before = import(rt.alloc(), &mut state, &[FIRST])?;
+    state.restore_one(Own(0))?;
+    let after = import(rt.alloc(), &mut state, &[FIRST])?;
+
+    assert_eq!(rt; before, Import::Waits { var: Var(0) });
+    assert_eq!(rt; after, Import::Taken);
+    assert_eq!(rt; state.value_of(Own(0)), Some(true));
+    assert!(rt; holds_third(state.clauses(), in_lit(2, false)));
     Ok(())
 }
