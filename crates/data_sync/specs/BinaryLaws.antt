@@ -134,7 +134,8 @@ both_own m (x ∷ y ∷ []) d h g = refl
 both_own m (x ∷ y ∷ z ∷ lits) d h g = absurd (omega arith)
 
 -- what a walk over stored clauses gave, with one more clause
-pub pairs_more : (s : State) (m : Maps) (hs : List Held) (o : Option Held) (old new : List Shared) → ((c : List Lit) → HasClause old c → HasClause new c) → All (λ c. HasPair s c old) (own_clauses m (learned_of hs))
+pub pairs_more : (s : State) (m : Maps) (hs : List Held) (o : Option Held) (old new : List Shared) → ((c : List Lit) → HasClause old c → HasClause new c)
+    → All (λ c. HasPair s c old) (own_clauses m (learned_of hs))
     → ((h : Held) → o ≡ Some h → h.learned ≡ true → HasPair s (own_clause m h.lits) new) → All (λ c. HasPair s c new) (own_clauses m (learned_of (hs ++ option_to_list o)))
 pairs_more s m hs o old new k a p =
     subst (λ (z : List (List OwnLit)). All (λ c. HasPair s c new) z) (sym (clauses_of-append m (λ b. b) hs (option_to_list o)))
@@ -142,7 +143,8 @@ pairs_more s m hs o old new k a p =
     (All-weaker (λ c. HasPair s c old) (λ c. HasPair s c new) (λ c h x y f g e q r. k (in_order x y) (h x y f g e q r)) (own_clauses m (learned_of hs)) a)
     (last o p))
   where
-    one : (h : Held) (b : Bool) → b ≡ h.learned → (h.learned ≡ true → HasPair s (own_clause m h.lits) new) → All (λ c. HasPair s c new) (map (own_clause m) (map (λ (c : Held). c.lits) (cond b (h ∷ []) [])))
+    one : (h : Held) (b : Bool) → b ≡ h.learned → (h.learned ≡ true → HasPair s (own_clause m h.lits) new)
+        → All (λ c. HasPair s c new) (map (own_clause m) (map (λ (c : Held). c.lits) (cond b (h ∷ []) [])))
     one h true e f = All-cons (λ c. HasPair s c new) (own_clause m h.lits) [] (f (sym e)) (All-nil (λ c. HasPair s c new))
     one h false e f = All-nil (λ c. HasPair s c new)
 

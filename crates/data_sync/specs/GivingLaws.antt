@@ -34,7 +34,8 @@ pub stays_turns : (s : State) (solver after : ℕ) (log : List Shared) → Keeps
 stays_turns s solver after log = record { turn = λ had l e t. t; keeps = λ c h. h; longer = omega arith; heard = λ h. h }
 
 -- a clause that follows was given
-pub gives_turns : (s : State) (solver after : ℕ) (old new : List Shared) (c : List Lit) → IsShareable (problem_of s).vars c → Follows (with_clauses (problem_of s) s.entries) c → is_heard s c ≡ true → Gives old new solver after c → KeepsTurns s solver after old new
+pub gives_turns : (s : State) (solver after : ℕ) (old new : List Shared) (c : List Lit) → IsShareable (problem_of s).vars c → Follows (with_clauses (problem_of s) s.entries) c
+    → is_heard s c ≡ true → Gives old new solver after c → KeepsTurns s solver after old new
 gives_turns s solver after old new c h f i (inl e) = subst (λ (z : List Shared). KeepsTurns s solver after old z) (sym e) (stays_turns s solver after old)
 gives_turns s solver after old new c h f i (inr (l, e)) =
     subst (λ (z : List Shared). KeepsTurns s solver after old z) (sym e)

@@ -61,7 +61,8 @@ fixed_heard s at l own h g o =
     or_right (list_any (is_away s) (l ∷ [])) (is_covered (s.hard ++ s.learned) (own_form s (l ∷ []))) (ap (λ (z : Root). is_covered (s.hard ++ s.learned) (add_root z (Some []))) r)
 
 -- a learned clause has its own literals
-pub binary_heard : (s : State) (at : ℕ) (k l : Lit) (first second : OwnLit) → Stands s → slice_get s.learned at ≡ Some (first ∷ second ∷ []) → IsOuter s k first → IsOuter s l second → is_heard s (in_order k l) ≡ true
+pub binary_heard : (s : State) (at : ℕ) (k l : Lit) (first second : OwnLit) → Stands s → slice_get s.learned at ≡ Some (first ∷ second ∷ []) → IsOuter s k first → IsOuter s l second
+    → is_heard s (in_order k l) ≡ true
 binary_heard s at k l first second h g o p =
     or_right (list_any (is_away s) (in_order k l)) (is_covered (s.hard ++ s.learned) (own_form s (in_order k l))) (go (own_form s (in_order k l)) refl)
   where
@@ -74,10 +75,12 @@ binary_heard s at k l first second h g o p =
         let d : cond {A = ℕ} (is_active s x.var.0) 1 0 ≡ 1 = one_if (is_active s x.var.0) a in
         root_unnamed s.stack x (unnamed x.var.0 s.stack (omega arith))
 
-    stays : (d : List OwnLit) (x : Lit) (own : OwnLit) → IsOuter s x own → is_active s own.var.0 ≡ true → root_fits (λ j. list_any (same_lit j) d) (root s.stack (to_own s.definitions x)) ≡ true → list_any (same_lit own) d ≡ true
+    stays : (d : List OwnLit) (x : Lit) (own : OwnLit) → IsOuter s x own → is_active s own.var.0 ≡ true → root_fits (λ j. list_any (same_lit j) d) (root s.stack (to_own s.definitions x)) ≡ true
+        → list_any (same_lit own) d ≡ true
     stays d x own i a f = sym (ap (root_fits (λ j. list_any (same_lit j) d)) (ap (root s.stack) i.own ∙ left own a)) ∙ f
 
-    both : (d : List OwnLit) (b : Bool) → list_all (λ x. root_fits (λ j. list_any (same_lit j) d) (root s.stack (to_own s.definitions x))) (cond b (k ∷ l ∷ []) (l ∷ k ∷ [])) ≡ true → is_within (first ∷ second ∷ []) d ≡ true
+    both : (d : List OwnLit) (b : Bool) → list_all (λ x. root_fits (λ j. list_any (same_lit j) d) (root s.stack (to_own s.definitions x))) (cond b (k ∷ l ∷ []) (l ∷ k ∷ [])) ≡ true
+        → is_within (first ∷ second ∷ []) d ≡ true
     both d true f =
         let a : (root_fits (λ j. list_any (same_lit j) d) (root s.stack (to_own s.definitions k)) ≡ true) × ((root_fits (λ j. list_any (same_lit j) d) (root s.stack (to_own s.definitions l)) && true) ≡ true) = and_parts _ _ f in
         and_from _ _ (stays d k first o active.0 a.0) (and_from _ _ (stays d l second p (and_parts _ _ active.1).0 (and_parts _ _ a.1).0) refl)

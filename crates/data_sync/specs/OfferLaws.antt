@@ -60,7 +60,8 @@ pub offered_front : {X : Type 0} (f : X → List Lit) (log : List Shared) (n : �
 offered_front f log n xs a = All-map (HasClause log) f (take n xs) (All-take (λ x. HasClause log (f x)) n xs (all_from_map f log xs a))
 
 -- and one more clause
-pub offered_more : {X : Type 0} (f : X → List Lit) (log : List Shared) (n : ℕ) (xs : List X) (x : X) → All (HasClause log) (map f xs) → HasClause log (f x) → All (HasClause log) (map f (take n xs ++ x ∷ []))
+pub offered_more : {X : Type 0} (f : X → List Lit) (log : List Shared) (n : ℕ) (xs : List X) (x : X) → All (HasClause log) (map f xs) → HasClause log (f x)
+    → All (HasClause log) (map f (take n xs ++ x ∷ []))
 offered_more f log n xs x a h =
     All-map (HasClause log) f (take n xs ++ x ∷ []) (All-push (λ y. HasClause log (f y)) (take n xs) x (All-take (λ y. HasClause log (f y)) n xs (all_from_map f log xs a)) h)
 
@@ -72,11 +73,13 @@ has_last log e = (length log, e, (let l : length (log ++ e ∷ []) ≡ length lo
     at (x ∷ xs) = at xs
 
 -- the log has a clause that was offered
-pub offer_has : (o : Offer) (old new : List Shared) (solver after : ℕ) (c : List Lit) → (o ≡ Known → new ≡ old) → (o ≡ Known → HasClause old c) → (o ≡ Added → new ≡ old ++ entry_of solver after c ∷ []) → HasClause new c
+pub offer_has : (o : Offer) (old new : List Shared) (solver after : ℕ) (c : List Lit) → (o ≡ Known → new ≡ old) → (o ≡ Known → HasClause old c)
+    → (o ≡ Added → new ≡ old ++ entry_of solver after c ∷ []) → HasClause new c
 offer_has Known old new solver after c u k a = subst (λ (z : List Shared). HasClause z c) (sym (u refl)) (k refl)
 offer_has Added old new solver after c u k a = subst (λ (z : List Shared). HasClause z c) (sym (a refl)) (has_last old (entry_of solver after c))
 
 -- and stayed or got it
-pub offer_gives : (o : Offer) (old new : List Shared) (solver after : ℕ) (c : List Lit) → (o ≡ Known → new ≡ old) → (o ≡ Added → LacksClause old c) → (o ≡ Added → new ≡ old ++ entry_of solver after c ∷ []) → Gives old new solver after c
+pub offer_gives : (o : Offer) (old new : List Shared) (solver after : ℕ) (c : List Lit) → (o ≡ Known → new ≡ old) → (o ≡ Added → LacksClause old c)
+    → (o ≡ Added → new ≡ old ++ entry_of solver after c ∷ []) → Gives old new solver after c
 offer_gives Known old new solver after c u l a = inl (u refl)
 offer_gives Added old new solver after c u l a = inr (l refl, a refl)

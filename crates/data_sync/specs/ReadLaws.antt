@@ -34,7 +34,8 @@ apart log i j e x once l g h q =
     (ap (λ (z : Shared). z.clause) (get_or_from_slice_get log i e e g ∙ (q ∙ sym (get_or_from_slice_get log j x e h))))
 
 -- an entry before the cursor, or at it, was taken
-ahead_more : (s t : State) (cursor next at : ℕ) (waiting : List ℕ) (log : List Shared) (e : Shared) → AllPairs (λ d e. d.clause ≡ e.clause → ⊥) log → cursor ≤ next → at < next → slice_get log at ≡ Some e
+ahead_more : (s t : State) (cursor next at : ℕ) (waiting : List ℕ) (log : List Shared) (e : Shared) → AllPairs (λ d e. d.clause ≡ e.clause → ⊥) log → cursor ≤ next → at < next
+    → slice_get log at ≡ Some e
     → t.entries ≡ s.entries ++ e ∷ [] → IsRead s cursor waiting log → (place : ℕ) (x : Shared) → next ≤ place → slice_get log place ≡ Some x → StandsIn t.entries x → ⊥
 ahead_more s t cursor next at waiting log e once c l g q h place x b f w =
     ⊎_elim
@@ -43,7 +44,8 @@ ahead_more s t cursor next at waiting log e once c l g q h place x b f w =
     (stands_push s.entries e x (subst (λ (z : List Shared). StandsIn z x) q w))
 
 -- the entry at the cursor was taken
-pub next-IsRead : (s t : State) (cursor : ℕ) (waiting : List ℕ) (log : List Shared) (e : Shared) → AllPairs (λ d e. d.clause ≡ e.clause → ⊥) log → slice_get log cursor ≡ Some e → t.entries ≡ s.entries ++ e ∷ []
+pub next-IsRead : (s t : State) (cursor : ℕ) (waiting : List ℕ) (log : List Shared) (e : Shared) → AllPairs (λ d e. d.clause ≡ e.clause → ⊥) log → slice_get log cursor ≡ Some e
+    → t.entries ≡ s.entries ++ e ∷ []
     → IsRead s cursor waiting log → IsRead t (cursor + 1) waiting log
 next-IsRead s t cursor waiting log e once g q h =
     record {
@@ -67,7 +69,8 @@ waits-IsRead s cursor waiting log h =
     }
 
 -- an entry that waited was taken
-pub retried-IsRead : (s t : State) (cursor : ℕ) (waiting left : List ℕ) (log : List Shared) (at : ℕ) (e : Shared) → AllPairs (λ d e. d.clause ≡ e.clause → ⊥) log → at < cursor → slice_get log at ≡ Some e
+pub retried-IsRead : (s t : State) (cursor : ℕ) (waiting left : List ℕ) (log : List Shared) (at : ℕ) (e : Shared) → AllPairs (λ d e. d.clause ≡ e.clause → ⊥) log → at < cursor
+    → slice_get log at ≡ Some e
     → t.entries ≡ s.entries ++ e ∷ [] → ((place : ℕ) → (place == at) ≡ false → waits left place ≡ false → waits waiting place ≡ false) → IsRead s cursor waiting log → IsRead t cursor left log
 retried-IsRead s t cursor waiting left log at e once l g q w h =
     record {

@@ -51,7 +51,8 @@ others_through solver s t u log x y =
     omega (arith, a, b, c, d)
 
 -- what was read and then given is a turn
-pub synced : (s t : State) (solver : ℕ) (old new : List Shared) (book : Book) → IsLegalLog (problem_of s) old → Reads s t old → IsInStep t book.cursor book.waiting old → KeepsTurns t solver (length old) old new
+pub synced : (s t : State) (solver : ℕ) (old new : List Shared) (book : Book) → IsLegalLog (problem_of s) old → Reads s t old → IsInStep t book.cursor book.waiting old
+    → KeepsTurns t solver (length old) old new
     → All (HasClause new) book.fixed → All (HasClause new) book.pairs → Synced s t solver old new book
 synced s t solver old new book legal r step k fixed pairs =
     record {
@@ -79,7 +80,8 @@ pub offered_kept : (s : State) (solver after : ℕ) (old new : List Shared) (cs 
 offered_kept s solver after old new cs k a = All-weaker (HasClause old) (HasClause new) (λ c h. k.keeps c h) cs a
 
 -- and the state is settled then
-pub settled_after : (s t : State) (solver : ℕ) (old new : List Shared) (waiting : List ℕ) → Stands t → HasRead s t old (length old) waiting → KeepsTurns t solver (length old) old new → HasFixed t (length t.stack) new → All (λ c. HasPair t c new) t.learned → IsSettled t new
+pub settled_after : (s t : State) (solver : ℕ) (old new : List Shared) (waiting : List ℕ) → Stands t → HasRead s t old (length old) waiting → KeepsTurns t solver (length old) old new
+    → HasFixed t (length t.stack) new → All (λ c. HasPair t c new) t.learned → IsSettled t new
 settled_after s t solver old new waiting st h k f p =
     record {
       heard = λ o. k.heard (read_heard s t old waiting h st o);

@@ -79,7 +79,8 @@ waited s t e solver a q r w = go (find (is_away s) e.clause) refl
     go None f = absurd (none (own_form s e.clause) (sym (ap is_waits (q ∙ ap (λ (z : Option Lit). answer_of z (own_form s e.clause)) f)) ∙ w))
 
 -- one that was answered by another is one that took the entry
-pub took : (s t : State) (e : Shared) (solver : ℕ) (a : Import) → names_known (outer_count s.definitions) (Clause e.clause) ≡ true → a ≡ import_answer s e.clause → t ≡ after_import e s → is_waits a ≡ false
+pub took : (s t : State) (e : Shared) (solver : ℕ) (a : Import) → names_known (outer_count s.definitions) (Clause e.clause) ≡ true → a ≡ import_answer s e.clause → t ≡ after_import e s
+    → is_waits a ≡ false
     → (n : ℕ) → n ≡ cond {A = ℕ} (e.solver == solver) 0 1 → Attempt s t e solver (Some n)
 took s t e solver a k q r w n m = go (find (is_away s) e.clause) refl
   where
@@ -111,7 +112,8 @@ away_more t u log waiting e x a =
     (λ p h z g. any_mono (is_away t) (is_away u) x.away z.clause (h z g)) waiting a
 
 -- the entry at the cursor was taken
-pub read_takes : (s t u : State) (log : List Shared) (cursor : ℕ) (waiting : List ℕ) (e : Shared) → slice_get log cursor ≡ Some e → HasRead s t log cursor waiting → Takes t u e → HasRead s u log (cursor + 1) waiting
+pub read_takes : (s t u : State) (log : List Shared) (cursor : ℕ) (waiting : List ℕ) (e : Shared) → slice_get log cursor ≡ Some e → HasRead s t log cursor waiting → Takes t u e
+    → HasRead s u log (cursor + 1) waiting
 read_takes s t u log cursor waiting e g h x =
     record {
       known = known_more t u log e x h.known;
@@ -121,7 +123,8 @@ read_takes s t u log cursor waiting e g h x =
     }
 
 -- the entry at the cursor waits
-pub read_waits : (s t u : State) (log : List Shared) (cursor : ℕ) (waiting : List ℕ) (e : Shared) → slice_get log cursor ≡ Some e → HasRead s t log cursor waiting → u ≡ t → list_any (is_away t) e.clause ≡ true
+pub read_waits : (s t u : State) (log : List Shared) (cursor : ℕ) (waiting : List ℕ) (e : Shared) → slice_get log cursor ≡ Some e → HasRead s t log cursor waiting → u ≡ t
+    → list_any (is_away t) e.clause ≡ true
     → HasRead s u log (cursor + 1) (waiting ++ cursor ∷ [])
 read_waits s t u log cursor waiting e g h q a =
     subst (λ (z : State). HasRead s z log (cursor + 1) (waiting ++ cursor ∷ [])) (sym q)
@@ -149,7 +152,8 @@ pub count_more : {X : Type 0} (p : X → Bool) (xs ys : List X) → count_by p (
 count_more p xs ys = sum_by-append (λ x. cond (p x) 1 0) xs ys
 
 -- what an entry that was taken adds to the count
-pub others_more : (solver : ℕ) (s t u : State) (log : List Shared) (e : Shared) (n : ℕ) → Reads s t log → Takes t u e → n ≡ cond {A = ℕ} (e.solver == solver) 0 1 → others solver s u ≡ others solver s t + n
+pub others_more : (solver : ℕ) (s t u : State) (log : List Shared) (e : Shared) (n : ℕ) → Reads s t log → Takes t u e → n ≡ cond {A = ℕ} (e.solver == solver) 0 1
+    → others solver s u ≡ others solver s t + n
 others_more solver s t u log e n r x q =
     let a : others solver s t ≡ count_by (λ (z : Shared). not (z.solver == solver)) r.taken = others_taken solver s t r.taken r.took in
     let b : others solver s u ≡ count_by (λ (z : Shared). not (z.solver == solver)) (r.taken ++ e ∷ []) = others_taken solver s u (r.taken ++ e ∷ []) (x.entries ∙ (ap (λ (z : List Shared). z ++ e ∷ []) r.took ∙ append_assoc s.entries r.taken (e ∷ []))) in
@@ -179,7 +183,8 @@ pub tried_all : (s t : State) (log : List Shared) (cursor : ℕ) (waiting : List
 tried_all s t log cursor waiting at l h = record { known = h.known; reads = h.reads; step = h.step; away = λ k d b. h.away k d (omega arith) }
 
 -- the entry still waits
-pub tried_waits : (s t u : State) (log : List Shared) (cursor : ℕ) (waiting : List ℕ) (at place : ℕ) (e : Shared) → ((d : ℕ) → get_or waiting at d ≡ place) → slice_get log place ≡ Some e → HasTried s t log cursor waiting at → u ≡ t
+pub tried_waits : (s t u : State) (log : List Shared) (cursor : ℕ) (waiting : List ℕ) (at place : ℕ) (e : Shared) → ((d : ℕ) → get_or waiting at d ≡ place) → slice_get log place ≡ Some e
+    → HasTried s t log cursor waiting at → u ≡ t
     → list_any (is_away t) e.clause ≡ true → HasTried s u log cursor waiting (at + 1)
 tried_waits s t u log cursor waiting at place e p g h q a =
     subst (λ (z : State). HasTried s z log cursor waiting (at + 1)) (sym q)
@@ -214,7 +219,8 @@ sum_any p (x ∷ xs) e =
     go false f = refl
 
 -- a place that does not wait when another is taken out did not wait before
-pub left_waits : (waiting : List ℕ) (at place other d : ℕ) → at < length waiting → get_or waiting at d ≡ place → (other == place) ≡ false → waits (swap_remove waiting at d) other ≡ false → waits waiting other ≡ false
+pub left_waits : (waiting : List ℕ) (at place other d : ℕ) → at < length waiting → get_or waiting at d ≡ place → (other == place) ≡ false → waits (swap_remove waiting at d) other ≡ false
+    → waits waiting other ≡ false
 left_waits waiting at place other d l g n w =
     let a : count_by (λ p. p == other) (swap_remove waiting at d) ≡ 0 = any_sum (λ p. p == other) (swap_remove waiting at d) w in
     let b : count_by (λ p. p == other) (swap_remove waiting at d) + cond {A = ℕ} (get_or waiting at d == other) 1 0 ≡ count_by (λ p. p == other) waiting = sum_by-swap_remove (λ p. cond {A = ℕ} (p == other) 1 0) waiting at d l in
@@ -229,7 +235,8 @@ left_waits waiting at place other d l g n w =
         go false e = refl
 
 -- the entry was taken, and its place goes
-pub tried_takes : (s t u : State) (log : List Shared) (cursor : ℕ) (waiting left : List ℕ) (at place d : ℕ) (e : Shared) → at < length waiting → get_or waiting at d ≡ place → left ≡ swap_remove waiting at d → slice_get log place ≡ Some e
+pub tried_takes : (s t u : State) (log : List Shared) (cursor : ℕ) (waiting left : List ℕ) (at place d : ℕ) (e : Shared) → at < length waiting → get_or waiting at d ≡ place
+    → left ≡ swap_remove waiting at d → slice_get log place ≡ Some e
     → HasTried s t log cursor waiting at → Takes t u e → HasTried s u log cursor left at
 tried_takes s t u log cursor waiting left at place d e l g q i h x =
     record {

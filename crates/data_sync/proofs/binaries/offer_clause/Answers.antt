@@ -45,7 +45,8 @@ pairs : (k : Kernel) (s : Store) (id : ℕ) (lits : List InLit) (d : InLit) → 
     → (h : Held) → clause_at k.store.held id ≡ Some h → own_clause k.maps h.lits ≡ own_of k.maps (get_or lits 0 d) ∷ own_of k.maps (get_or lits 1 d) ∷ []
 pairs k s id lits d q e a b h f = ap (own_clause k.maps) (lits_of (clause_at s.held id) h lits e (ap (λ (z : Store). clause_at z.held id) q ∙ f)) ∙ both_own k.maps lits d a b
 
-outer_found : (k : Kernel) (m : Maps) (x : InLit) (r : Option Lit) (own : OwnLit) (l : Lit) → Standing k → m ≡ k.maps → Matched m → r ≡ stored_outer m x → own_of k.maps x ≡ own → IsOuter (state_of k) l own → r ≡ Some l
+outer_found : (k : Kernel) (m : Maps) (x : InLit) (r : Option Lit) (own : OwnLit) (l : Lit) → Standing k → m ≡ k.maps → Matched m → r ≡ stored_outer m x → own_of k.maps x ≡ own
+    → IsOuter (state_of k) l own → r ≡ Some l
 outer_found k m x r own l h q t e f o =
     e ∙ (ap (λ (z : Maps). stored_outer z x) q ∙ stored_only k x l h (subst Matched q t) (subst (IsOuter (state_of k) l) (sym f) o))
 
@@ -78,7 +79,8 @@ record Read (k : Kernel) (x y : InLit) : Type 0 where
   at : ℕ
   stands : slice_get (state_of k).learned at ≡ Some (own_of k.maps x ∷ own_of k.maps y ∷ [])
 
-read : (k : Kernel) (s t : Store) (id : ℕ) (lits : List InLit) (b : Bool) → s ≡ k.store → t ≡ k.store → option_map (λ c. c.learned) (clause_at s.held id) ≡ Some b → b ≡ true → option_map (λ c. c.lits) (clause_at t.held id) ≡ Some lits
+read : (k : Kernel) (s t : Store) (id : ℕ) (lits : List InLit) (b : Bool) → s ≡ k.store → t ≡ k.store → option_map (λ c. c.learned) (clause_at s.held id) ≡ Some b → b ≡ true
+    → option_map (λ c. c.lits) (clause_at t.held id) ≡ Some lits
     → 2 ≤ length lits → length lits < 3 → Read k (get_or lits 0 zero_lit) (get_or lits 1 zero_lit)
 read k s t id lits b q r e f g m n =
     let x : (h : Held) × (clause_at k.store.held id ≡ Some h) = some_of (clause_at k.store.held id) lits (ap (λ (z : Store). option_map (λ (c : Held). c.lits) (clause_at z.held id)) (sym r) ∙ g) in

@@ -45,7 +45,8 @@ taken c =
     reads_through (state_of c.args.state.now) (state_of c.retry.new.state) (state_of c.read.new.state) c.args.store.now h.reads (walked c).reads
 
 -- so what is given then makes a turn
-made : (c : After-read) (new : List Shared) (fixed pairs : List (List Lit)) → KeepsTurns (state_of c.read.new.state) c.args.solver (length c.args.store.now) c.args.store.now new → All (HasClause new) fixed → All (HasClause new) pairs
+made : (c : After-read) (new : List Shared) (fixed pairs : List (List Lit)) → KeepsTurns (state_of c.read.new.state) c.args.solver (length c.args.store.now) c.args.store.now new
+    → All (HasClause new) fixed → All (HasClause new) pairs
     → Synced (state_of c.args.state.now) (state_of c.read.new.state) c.args.solver c.args.store.now new (record { cursor = c.read.new.self.cursor; waiting = c.read.new.self.waiting; fixed = fixed; pairs = pairs })
 made c new fixed pairs k f p =
     synced (state_of c.args.state.now) (state_of c.read.new.state) c.args.solver c.args.store.now new (record { cursor = c.read.new.self.cursor; waiting = c.read.new.self.waiting; fixed = fixed; pairs = pairs }) c.requires.legal (taken c) (walked c).step k f p
