@@ -1,13 +1,17 @@
 ghost use Rattle.std.specs.Prelude.{◌≡◌, Some, [], ◌∷◌, if◌then◌else◌, IfOk, IsTrue};
+ghost use Rattle.std.specs.List.{list_any};
 ghost use Rattle.rebuild_stack.specs.Entries.{named};
 ghost use Rattle.rebuild_stack.specs.Roots.{root, turned};
-ghost use Rattle.rebuild_stack.specs.PutIn.{put_in, add_root, add_lit};
+ghost use Rattle.rebuild_stack.specs.PutIn.{same_lit, put_in, add_root, add_lit};
 ghost use Rattle.removed_vars.specs.Signs.{TellsSigns};
 
 use rebuild_stack::{Entry, Root};
 use sat_lits::{List, NoMemory, Own, OwnLit};
 use std::alloc::Global;
 use std::collections::HashMap;
+
+/// Up to how many literals are compared one by one, which is quicker than a table.
+const FEW: usize = 12;
 
 /// The own variable of an entry.
 pub fn var_of(entry: &Entry) -> Own
@@ -99,10 +103,54 @@ fn add_root(
     }
 }
 
-/// The clause of what literals come to: repeats are merged, and what is false or lost is left out.
-/// None comes exactly where one is true or stands beside its negation. The only error is want of
-/// memory.
-pub fn put_in(alloc: Global, roots: &[Root]) -> Result<Option<List<OwnLit>>, NoMemory>
+/// Whether a literal stands in a clause.
+fn stands_in(lit: OwnLit, lits: &[OwnLit]) -> bool
+    ensures { result ≡ list_any (same_lit lit) lits.now }
+{
+    lits.iter().any(|other| lit.var.0 == other.var.0 && lit.negative == other.negative)
+}
+
+/// Adds a literal to a short clause that has none twice. False comes exactly where the negation
+/// stands there.
+fn add_lit_to_few(lits: &mut List<OwnLit>, lit: OwnLit) -> Result<bool, NoMemory>
+    ensures { IfOk result (λ more. add_lit lit lits.old ≡ (if more then Some lits.new else None)) }
+{
+    if stands_in(turned(true, lit), lits.as_slice()) {
+        return Ok(false);
+    }
+    if !stands_in(lit, lits.as_slice()) {
+        lits.push(lit)?;
+    }
+    Ok(true)
+}
+
+/// Adds what a literal came to, to a short clause. False comes exactly where it settles the clause.
+fn add_root_to_few(lits: &mut List<OwnLit>, root: Root) -> Result<bool, NoMemory>
+    ensures { IfOk result (λ more. add_root root (Some lits.old) ≡ (if more then Some lits.new else None)) }
+{
+    match root {
+        Root::Known(value) => Ok(!value),
+        Root::Lost(_) => Ok(true),
+        Root::Last(lit) => add_lit_to_few(lits, lit),
+    }
+}
+
+/// Merges what a few literals come to, by a look at all that are there.
+fn put_in_few(alloc: Global, roots: &[Root]) -> Result<Option<List<OwnLit>>, NoMemory>
+    ensures { IfOk result (λ clause. clause ≡ put_in (λ root. root) roots.now) }
+{
+    let mut lits = List::new(alloc);
+    'merge: for root in roots {
+        let open = add_root_to_few(&mut lits, *root)?;
+        if !open {
+            return Ok(None);
+        }
+    }
+    Ok(Some(lits))
+}
+
+/// Merges what many literals come to, by a table of their signs.
+fn put_in_many(alloc: Global, roots: &[Root]) -> Result<Option<List<OwnLit>>, NoMemory>
     ensures { IfOk result (λ clause. clause ≡ put_in (λ root. root) roots.now) }
 {
     let mut lits = List::new(alloc);
@@ -114,6 +162,19 @@ pub fn put_in(alloc: Global, roots: &[Root]) -> Result<Option<List<OwnLit>>, NoM
         }
     }
     Ok(Some(lits))
+}
+
+/// The clause of what literals come to: repeats are merged, and what is false or lost is left out.
+/// None comes exactly where one is true or stands beside its negation. The only error is want of
+/// memory.
+pub fn put_in(alloc: Global, roots: &[Root]) -> Result<Option<List<OwnLit>>, NoMemory>
+    ensures { IfOk result (λ clause. clause ≡ put_in (λ root. root) roots.now) }
+{
+    if roots.len() <= FEW {
+        put_in_few(alloc, roots)
+    } else {
+        put_in_many(alloc, roots)
+    }
 }
 
 /// The clause with one entry put in. None comes exactly where it is satisfied or a tautology. The

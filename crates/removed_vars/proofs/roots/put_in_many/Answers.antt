@@ -1,7 +1,7 @@
 use Rattle.std.proofs.Common.{◌∙◌, ap, Bool, false, Some, None, if◌then◌else◌}
 use Rattle.rebuild_stack.specs.declared.entry.Root.TheVariants.{Known}
 use Rattle.removed_vars.specs.PuttingLaws.{put_in_more, put_in_stuck}
-use Rattle.removed_vars.proofs.roots.put_in.Goals as goal
+use Rattle.removed_vars.proofs.roots.put_in_many.Goals as goal
 
 pub returns-then-not-open : goal.returns-then-not-open
 returns-then-not-open c =
