@@ -39,8 +39,8 @@ use Rattle.one_solver.proofs.Taking.{clause_takable}
 use Rattle.one_solver.proofs.Refuting.{inner_of, held_inner}
 
 -- the assumptions can be mapped
-pub takable : (s : Parts) → IsBasic s.kernel → AssumesKnown s → Takable (state_of s.kernel) s.assumptions
-takable s b a = clause_takable s.kernel s.assumptions b a.known
+pub takable : (s : Parts) → AssumesKnown s → Takable (state_of s.kernel) s.assumptions
+takable s a = clause_takable s.kernel s.assumptions a.known a.free
 
 -- a model fits what was taken where that are no shared entries
 fits : (k : Kernel) (values : List Bool) → IsBasic k → IsModel (problem_of (state_of k)) values → Fits (state_of k) values
@@ -48,7 +48,7 @@ fits k values b m = record { model = m; entries = ap (λ (es : List Shared). sat
 
 -- assumptions that clash contradict the items
 pub clash_contradicted : (s : Parts) (positions : List ℕ) → Standing s.kernel → IsBasic s.kernel → AssumesKnown s → IsClash (roots (state_of s.kernel) s.assumptions) positions → AreContradicted (problem_in s) s.assumptions positions
-clash_contradicted s positions st b a c = λ values m. clash_contradicts s.kernel s.assumptions positions st (takable s b a) c values (fits s.kernel values b m)
+clash_contradicted s positions st b a c = λ values m. clash_contradicts s.kernel s.assumptions positions st (takable s a) c values (fits s.kernel values b m)
 
 pub roots_long : (s : Parts) → length (roots (state_of s.kernel) s.assumptions) ≡ length s.assumptions
 roots_long s = length-map s.assumptions (λ (l : Lit). root s.kernel.stack (to_own s.kernel.definitions l))
@@ -66,7 +66,7 @@ module _ (s : Parts) (lits : List InLit) (positions : List ℕ) (r : IsMappedTo 
       let c : Confirms (state_of s.kernel) w = widened_confirm (state_of s.kernel) st.stands values t in
       list_all-map (λ p. is_true values (get_or s.assumptions p (record { var = record { 0 = 0 }; negative = false }))) (λ p. get_or positions p 0) failed
       ∙ (sym (all_agree (λ p. nat_lt p (length lits)) (λ p. lit_value (inner_of s.kernel w) (assumption_at lits p)) (λ p. is_true values (get_or s.assumptions (get_or positions p 0) (record { var = record { 0 = 0 }; negative = false })))
-      (λ p h. ready_has_values s.kernel s.assumptions lits positions st (takable s b a) r values t p (ltb-true _ _ h)) failed f.within)
+      (λ p h. ready_has_values s.kernel s.assumptions lits positions st (takable s a) r values t p (ltb-true _ _ h)) failed f.within)
       ∙ f.contradict (inner_of s.kernel w) (held_inner s.kernel w (record { hard = c.hard; learned = c.learned })))
 
   -- their positions rise
@@ -122,7 +122,7 @@ module _ (s : Parts) (lits : List InLit) (positions : List ℕ) (r : IsMappedTo 
   pub rebuilt_true : (values out : List Bool) → Standing s.kernel → Matched s.kernel.maps → IsBasic s.kernel → AssumesKnown s → IsInnerModel s.kernel lits values → out ≡ rebuilt_values s.kernel values → makes_true out s.assumptions ≡ true
   rebuilt_true values out st m b a i e =
       ap (λ (vs : List Bool). makes_true vs s.assumptions) e
-      ∙ ready_is_rebuilt s.kernel s.assumptions lits positions st (takable s b a) r (values_of (map (inner_value values) s.kernel.maps.inners))
+      ∙ ready_is_rebuilt s.kernel s.assumptions lits positions st (takable s a) r (values_of (map (inner_value values) s.kernel.maps.inners))
       (both_all (in_value values) (λ l. is_some (owner_at s.kernel.maps l.var.0)) (λ l. own_value (values_of (map (inner_value values) s.kernel.maps.inners)) (own_of s.kernel.maps l)) each lits i.assumed r.kept.owned)
     where
       each : (l : InLit) → in_value values l ≡ true → is_some (owner_at s.kernel.maps l.var.0) ≡ true → own_value (values_of (map (inner_value values) s.kernel.maps.inners)) (own_of s.kernel.maps l) ≡ true

@@ -1,12 +1,12 @@
 -- What fixing a literal leaves of the clauses of one literal.
-use Rattle.std.proofs.Common.{◌≡◌, ℕ, ◌<◌, ◌≤◌, ◌==◌, Bool, true, false, cond, not, ◌&&◌, ◌||◌, List, [], ◌∷◌, ◌++◌, Option, Some, None, refl, sym, ap, ap₂, subst, ◌∙◌, ⊎_elim, inl, inr, filter, map, set, get_or, count_by, length, arith}
+use Rattle.std.proofs.Common.{◌≡◌, ℕ, ◌+◌, ◌<◌, ◌≤◌, ◌==◌, Bool, true, false, cond, not, ◌&&◌, ◌||◌, List, [], ◌∷◌, ◌++◌, Option, Some, None, refl, sym, ap, ap₂, subst, ◌∙◌, ⊎_elim, append_assoc, append-nil, inl, inr, filter, map, set, get_or, count_by, length, arith}
 use Rattle.std.specs.List.{list_any, list_all, cons_option}
 use Rattle.std.specs.Bool.{beq}
 use Rattle.std.proofs.lemmas.Bool.{and_parts, and_from, or_cases, or_left, or_right, eqb-true, eq-eqb, false≢true, true≢false, not-true}
 use Rattle.std.proofs.lemmas.List.Folds.{list_any-append, list_all-append}
 use Rattle.std.proofs.lemmas.List.Sums.{sum_by-set}
 use Rattle.sat_lits.specs.Conflicts.{own_count}
-use Rattle.sat_lits.specs.ListLaws.{all_or_any, any_mono, any_filter}
+use Rattle.sat_lits.specs.ListLaws.{all_or_any, any_mono, any_filter, all_push}
 use Rattle.sat_lits.specs.ClauseLaws.{beq_true}
 use Rattle.sat_lits.specs.Truth.{signed, clause_value}
 use Rattle.sat_lits.specs.InLits.{same_lit as same_in}
@@ -35,6 +35,7 @@ use Rattle.private_state.specs.MovingLaws.{active_unnamed}
 use Rattle.one_solver.specs.Basic.{IsBasic}
 use Rattle.one_solver.specs.Fixing.{IsHeldOrFixed, IsFixing}
 use Rattle.one_solver.specs.Learned.{HasForgotten}
+use Rattle.one_solver.specs.Settled.{OnlyPushed}
 use Rattle.one_solver.specs.Units.{is_short, is_empty, is_unit, HasNoUnits, IsFixed, StayFixed, FixesUnits}
 
 -- a clause of one literal is that literal
@@ -197,14 +198,25 @@ fixed_append v b (x ∷ xs) es e = go (names v x) (fixed_append v b xs es) e
 pub stays_by : (k n : Kernel) (es : List Entry) → n.stack ≡ k.stack ++ es → StayFixed k n
 stays_by k n es e l f = ap (λ (s : List Entry). fixed_value (entry_of l.var.0 s)) e ∙ fixed_append l.var.0 (not l.negative) k.stack es f
 
-fewer : (xs : List Bool) (i : ℕ) → get_or xs i false ≡ true → count_by (λ b. b) (set xs i false) < count_by (λ b. b) xs
-fewer xs i e =
+-- one of them is not true any more
+pub one_fewer : (xs : List Bool) (i : ℕ) → get_or xs i false ≡ true → count_by (λ b. b) (set xs i false) + 1 ≡ count_by (λ b. b) xs
+one_fewer xs i e =
     let one : cond {A = ℕ} (get_or xs i false) 1 0 ≡ 1 = ap (λ b. cond {A = ℕ} b 1 0) e in
     omega (arith, one, sum_by-set (λ (b : Bool). cond {A = ℕ} b 1 0) xs i false false (active_in xs i e))
 
 -- fewer variables are active after each literal that is fixed
 pub fewer_active : (k n : Kernel) (o : OwnLit) → is_active (state_of k) o.var.0 ≡ true → state_of n ≡ put_into (Fix o) (state_of k) → count_by (λ b. b) (state_of n).active < count_by (λ b. b) (state_of k).active
-fewer_active k n o a e = subst (λ (xs : List Bool). count_by (λ b. b) xs < count_by (λ b. b) (state_of k).active) (sym (ap (λ (z : State). z.active) e)) (fewer (state_of k).active o.var.0 a)
+fewer_active k n o a e = subst (λ (xs : List Bool). count_by (λ b. b) xs < count_by (λ b. b) (state_of k).active) (sym (ap (λ (z : State). z.active) e)) (let f : count_by (λ b. b) (set (state_of k).active o.var.0 false) + 1 ≡ count_by (λ b. b) (state_of k).active = one_fewer (state_of k).active o.var.0 a in omega arith)
+
+-- an entry more was pushed
+pushed_more : (first k n : Kernel) (o : OwnLit) → state_of n ≡ put_into (Fix o) (state_of k) → OnlyPushed first k → OnlyPushed first n
+pushed_more first k n o e p =
+    record {
+      definitions = ap (λ (z : State). z.definitions) e ∙ p.definitions;
+      entries = p.entries ++ Fix o ∷ [];
+      stack = ap (λ (z : State). z.stack) e ∙ (ap (λ z. z ++ Fix o ∷ []) p.stack ∙ append_assoc first.stack p.entries (Fix o ∷ []));
+      kept = all_push (λ (x : Entry). not (is_gone x)) p.entries (Fix o) p.kept refl;
+    }
 
 -- a literal more is fixed
 pub fixing_step : (first k n : Kernel) (o : OwnLit) → Standing k → is_active (state_of k) o.var.0 ≡ true → state_of n ≡ put_into (Fix o) (state_of k) → IsFixing first k → IsFixing first n
@@ -213,7 +225,6 @@ fixing_step first k n o s a e h =
       basic = record {
         entries = ap (λ (z : State). z.entries) e ∙ h.basic.entries;
         few = subst (λ (z : State). length z.definitions ≤ own_count (problem_of z)) (sym e) h.basic.few;
-        kept = ap (λ (z : State). list_all (λ x. not (is_gone x)) z.stack) e ∙ (list_all-append (λ x. not (is_gone x)) k.stack (Fix o ∷ []) ∙ and_from _ _ h.basic.kept refl);
       };
       same = record {
         items = ap (λ (z : State). z.items) e ∙ h.same.items;
@@ -222,13 +233,17 @@ fixing_step first k n o s a e h =
         okay = λ t. h.same.okay (sym (ap (λ (z : State). z.okay) e) ∙ t);
       };
       fewer = let f : count_by (λ b. b) (state_of n).active < count_by (λ b. b) (state_of k).active = fewer_active k n o a e in let g : count_by (λ b. b) (state_of k).active ≤ count_by (λ b. b) (state_of first).active = h.fewer in omega arith;
-      stays = λ l f. stays_by k n (Fix o ∷ []) (ap (λ (z : State). z.stack) e) l (h.stays l f);
+      pushed = pushed_more first k n o e h.pushed;
       units = λ l u. hold_step k n o l s a e (h.units l u);
     }
 
+-- at first nothing was pushed
+pub pushed_none : (k : Kernel) → OnlyPushed k k
+pushed_none k = record { definitions = refl; entries = []; stack = sym (append-nil k.stack); kept = refl }
+
 -- at first each is held
 pub fixing_start : (k : Kernel) → IsBasic k → IsFixing k k
-fixing_start k b = record { basic = b; same = record { items = refl; entries = refl; definitions = refl; okay = λ t. t }; fewer = omega arith; stays = λ l f. f; units = λ l u. inl u }
+fixing_start k b = record { basic = b; same = record { items = refl; entries = refl; definitions = refl; okay = λ t. t }; fewer = omega arith; pushed = pushed_none k; units = λ l u. inl u }
 
 short_own : (m : Maps) (c : List InLit) → is_short (own_clause m c) ≡ is_short c
 short_own m [] = refl
@@ -269,7 +284,7 @@ fixing_end first k h n l u = ⊎_elim (λ f. absurd (none (is_unit (same_lit l))
 
 -- new ids of clauses change nothing of this
 pub renumbered_basic : (k n : Kernel) → n ≡ record k { store = n.store } → IsBasic k → IsBasic n
-renumbered_basic k n e b = subst (λ (z : Kernel). IsBasic z) (sym e) (record { entries = b.entries; few = b.few; kept = b.kept })
+renumbered_basic k n e b = subst (λ (z : Kernel). IsBasic z) (sym e) (record { entries = b.entries; few = b.few })
 
 pub renumbered_same : (first k n : Kernel) → n ≡ record k { store = n.store } → TookSame first k → TookSame first n
 renumbered_same first k n e t = subst (λ (z : Kernel). TookSame first z) (sym e) (record { items = t.items; entries = t.entries; definitions = t.definitions; okay = t.okay })
@@ -280,8 +295,8 @@ renumbered_fixed first k n e f o l u = ap (λ (z : Kernel). fixed_value (entry_o
 pub renumbered_fewer : (first k n : Kernel) → state_of n ≡ state_of k → count_by (λ b. b) (state_of k).active ≤ count_by (λ b. b) (state_of first).active → count_by (λ b. b) (state_of n).active ≤ count_by (λ b. b) (state_of first).active
 renumbered_fewer first k n q h = subst (λ (s : State). count_by (λ b. b) s.active ≤ count_by (λ b. b) (state_of first).active) (sym q) h
 
-pub renumbered_stays : (first k n : Kernel) → n ≡ record k { store = n.store } → StayFixed first k → StayFixed first n
-renumbered_stays first k n e h l f = ap (λ (z : Kernel). fixed_value (entry_of l.var.0 z.stack)) e ∙ h l f
+pub renumbered_pushed : (first k n : Kernel) → n ≡ record k { store = n.store } → OnlyPushed first k → OnlyPushed first n
+renumbered_pushed first k n e p = subst (λ (z : Kernel). OnlyPushed first z) (sym e) (record { definitions = p.definitions; entries = p.entries; stack = p.stack; kept = p.kept })
 
 pub renumbered_left : (k n : Kernel) → n ≡ record k { store = n.store } → state_of n ≡ state_of k → (k.okay ≡ true → HasNoUnits k) → n.okay ≡ true → HasNoUnits n
 renumbered_left k n e q h o = ap (λ (s : State). list_all (λ c. not (is_short c)) s.hard) q ∙ h (sym (ap (λ (z : Kernel). z.okay) e) ∙ o)

@@ -1,5 +1,7 @@
 pub mod Walking
 pub mod Fixing
+pub mod Freeing
+pub mod Eliminating
 pub mod Settling
 pub mod Forgetting
 pub mod Keeping

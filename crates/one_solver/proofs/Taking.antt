@@ -1,80 +1,56 @@
 -- What a state of this kind can take.
-use Rattle.std.proofs.Common.{◌≡◌, ℕ, zero, suc, ◌+◌, ◌-◌, ◌^◌, ◌<◌, ◌≤◌, ◌==◌, Bool, true, false, cond, not, List, [], ◌∷◌, ◌++◌, Option, Some, None, refl, sym, ap, ap₂, subst, ◌∙◌, length, map, sum, get_or, take, drop, replicate, arith, take_all, append_assoc}
+use Rattle.std.proofs.Common.{◌≡◌, ℕ, zero, suc, ◌+◌, ◌-◌, ◌^◌, ◌<◌, ◌≤◌, ◌==◌, Bool, true, false, not, ◌&&◌, List, [], ◌∷◌, ◌++◌, Option, Some, None, refl, sym, ap, ap₂, subst, ◌∙◌, length, map, sum, get_or, take, drop, replicate, arith, take_all, append_assoc, append-nil}
 use Rattle.std.specs.List.{list_all}
-use Rattle.std.proofs.lemmas.Bool.{and_parts, and_from, false≢true}
+use Rattle.std.proofs.lemmas.Bool.{and_parts, and_from}
 use Rattle.std.proofs.lemmas.List.{length-append, length-map, length-replicate, map-append, take-append-drop}
-use Rattle.std.proofs.lemmas.List.Folds.{list_all-append}
+use Rattle.std.proofs.lemmas.List.Folds.{list_all-append, list_all-map}
 use Rattle.std.proofs.lemmas.List.Sums.{sum_by-append, sum_by-cons}
+use Rattle.std.proofs.lemmas.List.Concat.{flat_map-cons}
 use Rattle.std.proofs.Math.Seq.{drop-append_seam}
 use Rattle.sat_lits.specs.Conflicts.{cuts, own_count}
+use Rattle.sat_lits.specs.ListLaws.{all_same, all_at}
 use Rattle.sat_lits.specs.Meaning.{Problem}
 use Rattle.sat_lits.specs.Formulas.{Extends, names_known, no_problem}
 use Rattle.sat_lits.specs.FollowLaws.{Extends_itself}
 use Rattle.sat_lits.specs.declared.literal.Lit.{Lit}
 use Rattle.sat_lits.specs.declared.literal.Var.{Var}
 use Rattle.sat_lits.specs.declared.literal.OwnLit.{OwnLit}
+use Rattle.rebuild_stack.specs.Roots.{root, is_lost}
+use Rattle.rebuild_stack.specs.declared.entry.Entry.{Entry}
 use Rattle.sat_lits.specs.declared.formula.Item.{Item}
 use Rattle.sat_lits.specs.declared.formula.Item.TheVariants.{Clause, Parity}
-use Rattle.rebuild_stack.specs.Entries.{is_gone}
-use Rattle.rebuild_stack.specs.Roots.{root, is_lost, turned}
-use Rattle.rebuild_stack.specs.declared.entry.Entry.{Entry}
-use Rattle.rebuild_stack.specs.declared.entry.Entry.TheVariants.{Fix, Equal, Gone}
-use Rattle.rebuild_stack.specs.declared.entry.Root.TheVariants.{Known}
-use Rattle.sat_lits.specs.Truth.{signed}
 use Rattle.state_laws.specs.declared.definition.Definition.{Definition}
 use Rattle.state_laws.specs.State.{State, outers_from, outer_count, to_own, problem_of}
 use Rattle.state_laws.specs.Conditions.{Takable}
 use Rattle.state_laws.specs.ExtendLaws.{outers_from-append}
 use Rattle.state_laws.specs.Moves.{grown}
-use Rattle.state_laws.specs.Kernel.{Kernel, state_of}
+use Rattle.state_laws.specs.Kernel.{Kernel, state_of, TookSame}
 use Rattle.private_state.specs.Taking.{IsTakable, item_taken}
-use Rattle.parity_forms.specs.Parities.{var_root, parity_pieces, definitions_of}
+use Rattle.parity_forms.specs.Parities.{parity_pieces, definitions_of}
 use Rattle.removed_vars.specs.CollectLaws.{taken_at}
 use Rattle.parity_forms.specs.ParityRootLaws.{few_cuts}
 use Rattle.parity_forms.specs.KernelParityLaws.{parity_definitions}
 use Rattle.one_solver.specs.Basic.{IsBasic}
+use Rattle.one_solver.specs.Roots.{is_free, lits_of, all_lits}
 use Rattle.one_solver.specs.Taken.{HasTaken, with_items}
 
--- where no variable was taken out, no literal is lost
-never_lost : (s : List Entry) → list_all (λ e. not (is_gone e)) s ≡ true → (l : OwnLit) → is_lost (root s l) ≡ false
-never_lost [] e l = refl
-never_lost (Fix k ∷ newer) e l = go (l.var.0 == k.var.0) (never_lost newer e l)
-  where
-    go : (b : Bool) → is_lost (root newer l) ≡ false → is_lost (cond b (Known (signed l.negative (not k.negative))) (root newer l)) ≡ false
-    go true r = refl
-    go false r = r
-never_lost (Equal v k ∷ newer) e l = go (l.var.0 == v.0) (never_lost newer e (turned l.negative k)) (never_lost newer e l)
-  where
-    go : (b : Bool) → is_lost (root newer (turned l.negative k)) ≡ false → is_lost (root newer l) ≡ false → is_lost (cond b (root newer (turned l.negative k)) (root newer l)) ≡ false
-    go true q r = q
-    go false q r = r
-never_lost (Gone v cs ∷ newer) e l = absurd (false≢true e)
+-- a clause over variables that are there, none of whose literals comes to an eliminated one, can be taken
+pub clause_takable : (k : Kernel) (c : List Lit) → names_known (outer_count k.definitions) (Clause c) ≡ true → list_all (is_free k) c ≡ true → Takable (state_of k) c
+clause_takable k c t f = record { there = t; roots = f }
 
--- a clause over variables that are there can be taken
-pub clause_takable : (k : Kernel) (c : List Lit) → IsBasic k → names_known (outer_count k.definitions) (Clause c) ≡ true → Takable (state_of k) c
-clause_takable k c b f = record { there = f; roots = none c }
-  where
-    none : (ls : List Lit) → list_all (λ l. not (is_lost (root k.stack (to_own k.definitions l)))) ls ≡ true
-    none [] = refl
-    none (l ∷ ls) = and_from _ _ (ap not (never_lost k.stack b.kept (to_own k.definitions l))) (none ls)
-
--- an item over variables that are there can be taken, where its cuts have room
-pub can_take : (k : Kernel) (item : Item) → IsBasic k → names_known (outer_count k.definitions) item ≡ true → length k.definitions + cuts item ≤ 2 ^ 31 → IsTakable (state_of k) item
-can_take k (Clause c) b f r = clause_takable k c b f
-can_take k (Parity vars rhs) b f r = record { there = f; roots = none vars; room = r }
-  where
-    none : (vs : List Var) → list_all (λ v. not (is_lost (var_root (state_of k) v.0))) vs ≡ true
-    none [] = refl
-    none (v ∷ vs) = and_from _ _ (ap not (never_lost k.stack b.kept (to_own k.definitions (record { var = record { 0 = v.0 }; negative = false })))) (none vs)
+-- an item of this kind can be taken, where its cuts have room
+pub can_take : (k : Kernel) (item : Item) → names_known (outer_count k.definitions) item ≡ true → list_all (is_free k) (lits_of item) ≡ true → length k.definitions + cuts item ≤ 2 ^ 31 → IsTakable (state_of k) item
+can_take k (Clause c) t f r = clause_takable k c t f
+can_take k (Parity vars rhs) t f r = record { there = t; roots = sym (list_all-map (is_free k) (λ (v : Var). let l : Lit = record { var = v; negative = false } in l) vars) ∙ f; room = r }
 
 -- outer variables count, and private ones do not
 nones : (n more : ℕ) → length (outers_from n (replicate more None)) ≡ more
 nones n zero = refl
 nones n (suc more) = ap suc (nones (suc n) more)
 
-somes : (n : ℕ) (ds : List Definition) → length (outers_from n (map Some ds)) ≡ 0
-somes n [] = refl
-somes n (d ∷ ds) = somes (suc n) ds
+no_outers : (n : ℕ) (ds : List Definition) → outers_from n (map Some ds) ≡ []
+no_outers n [] = refl
+no_outers n (d ∷ ds) = no_outers (suc n) ds
 
 outer_more : (a b : List (Option Definition)) → outer_count (a ++ b) ≡ outer_count a + length (outers_from (0 + length a) b)
 outer_more a b = ap length (outers_from-append 0 a b) ∙ length-append (outers_from 0 a) (outers_from (0 + length a) b)
@@ -88,13 +64,14 @@ one_cut item = sum_by-cons (λ n. n) (cuts item) [] ∙ omega arith
 
 -- an item more is taken
 pub one_taken : (k n : Kernel) (item : Item) → state_of n ≡ item_taken item (state_of k) → HasTaken k n (item ∷ [])
-one_taken k n (Clause c) e = record { items = ap (λ (z : State). z.items) e; outers = ap (λ (z : State). outer_count z.definitions) e; okay = ap (λ (z : State). z.okay) e }
+one_taken k n (Clause c) e = record { items = ap (λ (z : State). z.items) e; outers = ap (λ (z : State). outers_from 0 z.definitions) e; stack = ap (λ (z : State). z.stack) e; okay = ap (λ (z : State). z.okay) e }
 one_taken k n (Parity vars rhs) e = record {
   items = ap (λ (z : State). z.items) e;
   outers =
       let ds : List Definition = definitions_of (parity_pieces (state_of k) vars rhs) in
-      let m : outer_count n.definitions ≡ outer_count (k.definitions ++ map Some ds) = ap (λ (z : State). outer_count z.definitions) e in
-      omega (arith, m, outer_more k.definitions (map Some ds), somes (0 + length k.definitions) ds);
+      ap (λ (z : State). outers_from 0 z.definitions) e
+      ∙ (outers_from-append 0 k.definitions (map Some ds) ∙ (ap (λ z. outers_from 0 k.definitions ++ z) (no_outers (0 + length k.definitions) ds) ∙ append-nil (outers_from 0 k.definitions)));
+  stack = ap (λ (z : State). z.stack) e;
   okay = ap (λ (z : State). z.okay) e;
 }
 
@@ -107,22 +84,22 @@ own_more k n (Parity vars rhs) e =
     ap (λ (z : State). length z.definitions) e ∙ (length-append k.definitions (map Some ds) ∙ ap (λ (j : ℕ). length k.definitions + j) (length-map ds (λ (d : Definition). Some d))) in
     omega (arith, m, parity_definitions k vars rhs, few_cuts (state_of k) vars rhs)
 
+-- the number of outer variables is the same
+pub same_count : (k n : Kernel) (more : List Item) → HasTaken k n more → outer_count n.definitions ≡ outer_count k.definitions
+same_count k n more h = ap length h.outers
+
 pub basic_taken : (k n : Kernel) (item : Item) → IsBasic k → state_of n ≡ item_taken item (state_of k) → IsBasic n
-basic_taken k n item b e = record { entries = entries item e ∙ b.entries; few = few; kept = ap (list_all (λ x. not (is_gone x))) (stack item e) ∙ b.kept }
+basic_taken k n item b e = record { entries = entries item e ∙ b.entries; few = few }
   where
     entries : (i : Item) → state_of n ≡ item_taken i (state_of k) → n.entries ≡ k.entries
     entries (Clause c) f = ap (λ (z : State). z.entries) f
     entries (Parity vars rhs) f = ap (λ (z : State). z.entries) f
 
-    stack : (i : Item) → state_of n ≡ item_taken i (state_of k) → n.stack ≡ k.stack
-    stack (Clause c) f = ap (λ (z : State). z.stack) f
-    stack (Parity vars rhs) f = ap (λ (z : State). z.stack) f
-
     few : length n.definitions ≤ own_count (problem_of (state_of n))
     few =
         let h : HasTaken k n (item ∷ []) = one_taken k n item e in
         let s : sum (map cuts n.items) ≡ sum (map cuts (k.items ++ item ∷ [])) = ap (λ (is : List Item). sum (map cuts is)) h.items in
-        omega (arith, b.few, own_more k n item e, h.outers, s, cuts-append k.items (item ∷ []), one_cut item)
+        omega (arith, b.few, own_more k n item e, same_count k n (item ∷ []) h, s, cuts-append k.items (item ∷ []), one_cut item)
 
 -- where the next item was taken behind the first ones, these and it were taken
 pub taken_next : (first k n : Kernel) (items : List Item) (i : ℕ) (item : Item) → HasTaken first k (take i items) → i < length items → item ≡ get_or items i item → state_of n ≡ item_taken item (state_of k) → HasTaken first n (take (i + 1) items)
@@ -134,6 +111,7 @@ taken_next first k n items i item h l g e =
           ∙ (ap (λ z. z ++ item ∷ []) h.items
           ∙ (append_assoc first.items (take i items) (item ∷ []) ∙ (ap (λ (x : Item). first.items ++ (take i items ++ x ∷ [])) g ∙ ap (λ z. first.items ++ z) (sym (taken_at items i item l)))));
       outers = o.outers ∙ h.outers;
+      stack = o.stack ∙ h.stack;
       okay = o.okay ∙ h.okay;
     }
 
@@ -149,7 +127,7 @@ pub next_room : (first k : Kernel) (items : List Item) (i : ℕ) (item : Item) �
 next_room first k items i item b h l g r =
     let s : sum (map cuts k.items) ≡ sum (map cuts (first.items ++ take i items)) = ap (λ (is : List Item). sum (map cuts is)) h.items in
     let c : cuts item ≡ cuts (get_or items i item) = ap cuts g in
-    omega (arith, b.few, h.outers, s, c, cuts-append first.items (take i items), cuts-append first.items items, cuts_at items i item l, r)
+    omega (arith, b.few, same_count first k (take i items) h, s, c, cuts-append first.items (take i items), cuts-append first.items items, cuts_at items i item l, r)
 
 -- the cuts of the items that were taken are some of the cuts of the formula
 pub front_cuts : (f : Problem) (items more : List Item) → f.items ≡ items ++ more → own_count f ≡ f.vars + sum (map cuts items) + sum (map cuts more)
@@ -177,7 +155,6 @@ grown_basic k g more b e = record {
       ap (λ (z : State). length z.definitions) e ∙ (length-append k.definitions (replicate more None) ∙ ap (λ (j : ℕ). length k.definitions + j) (length-replicate more None)) in
       let s : sum (map cuts g.items) ≡ sum (map cuts k.items) = ap (λ (z : State). sum (map cuts z.items)) e in
       omega (arith, b.few, n, s, grown_outers k g more e);
-  kept = ap (λ (z : State). list_all (λ x. not (is_gone x)) z.stack) e ∙ b.kept;
 }
 
 pub grown_count : (k g : Kernel) (vars : ℕ) → outer_count k.definitions ≤ vars → state_of g ≡ grown (vars - outer_count k.definitions) (state_of k) → outer_count g.definitions ≡ vars
@@ -197,7 +174,7 @@ rest_passes p all old more e h = (and_parts _ _ (sym (list_all-append p old more
 -- some of the rest was taken
 pub took_some : (f : Problem) (g n : Kernel) (more : List Item) (m : ℕ) → outer_count g.definitions ≡ f.vars → f.items ≡ g.items ++ more → HasTaken g n (take m more) → Extends (problem_of (state_of n)) f
 took_some f g n more m v e h = record {
-  vars = omega (arith, v, h.outers);
+  vars = omega (arith, v, same_count g n (take m more) h);
   more = drop m more;
   items = e ∙ (ap (λ z. g.items ++ z) (sym (take-append-drop m more)) ∙ (sym (append_assoc g.items (take m more) (drop m more)) ∙ ap (λ z. z ++ drop m more) (sym h.items)));
 }
@@ -205,7 +182,7 @@ took_some f g n more m v e h = record {
 -- and all of it
 pub took_all : (f : Problem) (g n : Kernel) (more : List Item) → outer_count g.definitions ≡ f.vars → f.items ≡ g.items ++ more → HasTaken g n more → problem_of (state_of n) ≡ f
 took_all f g n more v e h =
-    ap₂ (λ (x : ℕ) (y : List Item). let z : Problem = record { vars = x; items = y } in z) (h.outers ∙ v) (h.items ∙ sym e)
+    ap₂ (λ (x : ℕ) (y : List Item). let z : Problem = record { vars = x; items = y } in z) (same_count g n more h ∙ v) (h.items ∙ sym e)
 
 pub took_front : (f : Problem) (g n : Kernel) (more : List Item) → outer_count g.definitions ≡ f.vars → f.items ≡ g.items ++ more → HasTaken g n more → Extends (problem_of (state_of n)) f
 took_front f g n more v e h = subst (λ (x : Problem). Extends x f) (sym (took_all f g n more v e h)) (Extends_itself f)
@@ -213,7 +190,7 @@ took_front f g n more v e h = subst (λ (x : Problem). Extends x f) (sym (took_a
 -- what was taken goes on from what was taken before
 pub took_longer : (f : Problem) (k g n : Kernel) (more : List Item) → outer_count g.definitions ≡ f.vars → outer_count k.definitions ≤ f.vars → g.items ≡ k.items → HasTaken g n more → Extends (problem_of (state_of k)) (problem_of (state_of n))
 took_longer f k g n more v w e h = record {
-  vars = omega (arith, v, h.outers);
+  vars = omega (arith, v, same_count g n more h);
   more = more;
   items = h.items ∙ ap (λ z. z ++ more) e;
 }
@@ -221,3 +198,41 @@ took_longer f k g n more v w e h = record {
 -- what took nothing took a front of every formula
 pub nothing_front : (taken f : Problem) → taken ≡ no_problem → Extends taken f
 nothing_front taken f e = subst (λ (x : Problem). Extends x f) (sym e) (record { vars = omega arith; more = f.items; items = refl })
+
+-- where the same was taken, it is still of this kind
+pub basic_same : (k n : Kernel) → IsBasic k → TookSame k n → IsBasic n
+basic_same k n b s =
+    record {
+      entries = s.entries ∙ b.entries;
+      few = subst (λ (ds : List (Option Definition)). length ds ≤ own_count (record { vars = outer_count ds; items = n.items })) (sym s.definitions)
+          (subst (λ (is : List Item). length k.definitions ≤ own_count (record { vars = outer_count k.definitions; items = is })) (sym s.items) b.few);
+    }
+
+-- and the formula is the same
+pub problem_same : (k n : Kernel) → TookSame k n → problem_of (state_of n) ≡ problem_of (state_of k)
+problem_same k n s = ap₂ (λ (ds : List (Option Definition)) (is : List Item). let z : Problem = record { vars = outer_count ds; items = is } in z) s.definitions s.items
+
+-- a literal that came to no eliminated variable comes to none where items were taken
+pub taken_free : (k n : Kernel) (more : List Item) (lits : List Lit) → HasTaken k n more → list_all (is_free k) lits ≡ true → list_all (is_free n) lits ≡ true
+taken_free k n more lits h f = all_same (is_free n) (is_free k) each lits ∙ f
+  where
+    each : (l : Lit) → is_free n l ≡ is_free k l
+    each l =
+        ap (λ (s : List Entry). not (is_lost (root s (to_own n.definitions l)))) h.stack
+        ∙ ap (λ (ns : List ℕ). let o : OwnLit = record { var = record { 0 = get_or ns l.var.0 0 }; negative = l.negative } in not (is_lost (root k.stack o))) h.outers
+
+all_in : (p : Lit → Bool) (items : List Item) → list_all p (all_lits items) ≡ list_all (λ x. list_all p (lits_of x)) items
+all_in p [] = refl
+all_in p (x ∷ items) = ap (list_all p) (flat_map-cons lits_of x items) ∙ (list_all-append p (lits_of x) (all_lits items) ∙ ap (λ b. list_all p (lits_of x) && b) (all_in p items))
+
+-- the literals of the item at a place are among those of all
+pub free_at : (p : Lit → Bool) (items : List Item) (i : ℕ) (item : Item) → i < length items → item ≡ get_or items i item → list_all p (all_lits items) ≡ true → list_all p (lits_of item) ≡ true
+free_at p items i item l e h = ap (λ (x : Item). list_all p (lits_of x)) e ∙ all_at (λ x. list_all p (lits_of x)) items i item l (sym (all_in p items) ∙ h)
+
+-- where variables came back behind what was taken, that is still a front
+pub came_front : (f : Problem) (g r : Kernel) (more : List Item) → outer_count g.definitions ≡ f.vars → f.items ≡ g.items ++ more → TookSame g r → Extends (problem_of (state_of r)) f
+came_front f g r more v e s = subst (λ (x : Problem). Extends x f) (sym (problem_same g r s)) (record { vars = omega (arith, v); more = more; items = e })
+
+-- and goes on from what was taken before
+pub came_longer : (k g r : Kernel) → outer_count k.definitions ≤ outer_count g.definitions → g.items ≡ k.items → TookSame g r → Extends (problem_of (state_of k)) (problem_of (state_of r))
+came_longer k g r v e s = subst (λ (x : Problem). Extends (problem_of (state_of k)) x) (sym (problem_same g r s)) (record { vars = v; more = []; items = e ∙ sym (append-nil k.items) })

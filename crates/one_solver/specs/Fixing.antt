@@ -12,7 +12,8 @@ use Rattle.one_solver.specs.Basic.{IsBasic}
 use Rattle.one_solver.specs.Learned.{NotesLong}
 use Rattle.one_solver.specs.declared.units.Short.{Short}
 use Rattle.one_solver.specs.declared.units.Short.TheVariants.{Empty, Single, End}
-use Rattle.one_solver.specs.Units.{is_empty, is_unit, IsFixed, StayFixed}
+use Rattle.one_solver.specs.Settled.{OnlyPushed}
+use Rattle.one_solver.specs.Units.{is_empty, is_unit, IsFixed}
 
 -- the clause of one literal is still held, or the literal is fixed, or a hard clause has no literal
 abbrev pub IsHeldOrFixed : Kernel → OwnLit → Type 0
@@ -23,7 +24,7 @@ pub record IsFixing (first now : Kernel) : Type 0 where
   pub basic : IsBasic now
   pub same : TookSame first now
   pub fewer : count_by (λ b. b) (state_of now).active ≤ count_by (λ b. b) (state_of first).active
-  pub stays : StayFixed first now
+  pub pushed : OnlyPushed first now
   pub units : (l : OwnLit) → list_any (is_unit (same_lit l)) (state_of first).hard ≡ true → IsHeldOrFixed now l
 
 -- a walk from one place to a clause of at most one literal, or to the end, noted the ids of the long learned clauses on its way

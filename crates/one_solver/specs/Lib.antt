@@ -1,4 +1,6 @@
 pub mod Basic
+pub mod Roots
+pub mod Settled
 pub mod Parts
 pub mod Assuming
 pub mod Units

@@ -1,11 +1,13 @@
 -- What contracts see of one solver.
 use Rattle.std.specs.Prelude.{◌≡◌, ◌<◌, ◌^◌, ℕ, true, List, length}
+use Rattle.std.specs.List.{list_all}
 use Rattle.sat_lits.specs.Formulas.{names_known}
 use Rattle.sat_lits.specs.Meaning.{Problem}
 use Rattle.sat_lits.specs.declared.literal.Lit.{Lit}
 use Rattle.sat_lits.specs.declared.formula.Item.TheVariants.{Clause}
 use Rattle.state_laws.specs.State.{problem_of}
 use Rattle.state_laws.specs.Kernel.{Kernel, state_of}
+use Rattle.one_solver.specs.Roots.{is_free}
 
 -- its number, its private state, the conflicts of the call, the number of the next interval, and the assumptions of the call
 pub record Parts : Type 0 where
@@ -26,7 +28,8 @@ pub record SameCall (old new : Parts) : Type 0 where
   pub interval : new.interval ≡ old.interval
   pub assumptions : new.assumptions ≡ old.assumptions
 
--- the variables of the assumptions are there, and the positions of assumptions have 32 bits
+-- the variables of the assumptions are there, no assumption comes to an eliminated one, and the positions of assumptions have 32 bits
 pub record AssumesKnown (s : Parts) : Type 0 where
   pub known : names_known (problem_in s).vars (Clause s.assumptions) ≡ true
+  pub free : list_all (is_free s.kernel) s.assumptions ≡ true
   pub few : length s.assumptions < 2 ^ 32

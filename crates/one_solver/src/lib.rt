@@ -5,6 +5,7 @@
 #![tactic(auto)]
 
 mod answer;
+mod free;
 mod learned;
 mod settle;
 mod solver;

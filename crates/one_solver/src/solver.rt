@@ -8,7 +8,8 @@ ghost use Rattle.state_laws.specs.Conditions.{IsContradicted};
 ghost use Rattle.state_laws.specs.Kernel.{state_of, Standing};
 ghost use Rattle.search.specs.Answers.{IsInnerModel, AreFailed};
 ghost use Rattle.analyze.specs.Counting.{saturated};
-ghost use Rattle.equiv_replace.specs.Binary.{HasNoCycles};
+ghost use Rattle.one_solver.specs.Roots.{is_free};
+ghost use Rattle.one_solver.specs.Settled.{IsDone, OnlyPushed};
 ghost use Rattle.one_solver.specs.Learned.{HasFewLong};
 ghost use Rattle.one_solver.specs.Parts.{problem_in, SameCall, AssumesKnown};
 ghost use Rattle.one_solver.specs.Assuming.{IsMappedTo, AreContradicted};
@@ -84,8 +85,9 @@ impl OneSolver {
     }
 
     /// Grows to the formula's number of variables, and takes its items from `taken` on. Those that
-    /// were taken are the formula's first ones. The only error is want of memory: then some of the
-    /// items may be taken, in order, and none that was taken is lost.
+    /// were taken are the formula's first ones. Eliminated variables that the new items name come back
+    /// first. The only error is want of memory: then some of the items may be taken, in order, and none
+    /// that was taken is lost.
     pub fn absorb(&mut self, formula: &Formula) -> Result<(), NoMemory>
         requires front { Extends (problem_in self.old) formula.now.problem }
         ensures ok { OnOk result (problem_in self.new ≡ formula.now.problem) }
@@ -94,12 +96,18 @@ impl OneSolver {
         ensures same { SameCall self.old self.new }
         ensures okay { self.new.kernel.okay ≡ self.old.kernel.okay }
     {
-        take_formula(&mut self.state, formula)
+        take_formula(self.alloc, &mut self.state, formula)
     }
 
     /// Starts a call under assumptions, whose variables are there: it made no conflict yet, and its
-    /// first interval comes next. Fixes the literals of the clauses of one literal and replaces
-    /// equivalent variables until there are neither. The only error is want of memory.
+    /// first interval comes next. The only error is want of memory, after which the call that stands
+    /// is one under no assumptions.
+    ///
+    /// First the eliminated variables that the assumptions name come back. Then the literals of the
+    /// clauses of one literal are fixed and subsumed clauses are dropped, and equivalent variables
+    /// are replaced and variables that meet the bound are eliminated until there are none of these:
+    /// an active variable that meets the bound is left of an assumption, or is one that the solver
+    /// keeps by its number.
     pub fn begin_call(&mut self, assumptions: &[Lit]) -> Result<(), NoMemory>
         requires few { length assumptions.now < 2 ^ 32 }
         requires known { IsTrue (names_known (problem_in self.old).vars (Clause assumptions.now)) }
@@ -108,7 +116,7 @@ impl OneSolver {
         ensures under_way { IsUnderWay self.new }
         ensures fixed { OnOk result (IsTrue self.new.kernel.okay → FixesUnits self.old.kernel self.new.kernel) }
         ensures left { OnOk result (IsTrue self.new.kernel.okay → HasNoUnits self.new.kernel) }
-        ensures cycles { OnOk result (IsTrue self.new.kernel.okay → HasNoCycles (state_of self.new.kernel).hard) }
+        ensures done { OnOk result (IsTrue self.new.kernel.okay → IsDone self.new.kernel assumptions.now self.new.number) }
         ensures problem { problem_in self.new ≡ problem_in self.old }
         ensures number { self.new.number ≡ self.old.number }
         ensures refuted { self.old.kernel.okay ≡ false → self.new.kernel.okay ≡ false }
@@ -116,8 +124,10 @@ impl OneSolver {
         self.tally = Tally::new();
         self.interval = 0;
         self.assumptions.clear();
-        self.assumptions = List::from_slice(self.alloc, assumptions)?;
-        settle(self.alloc, &mut self.state)
+        let kept = List::from_slice(self.alloc, assumptions)?;
+        settle(self.alloc, &mut self.state, assumptions, self.number)?;
+        self.assumptions = kept;
+        Ok(())
     }
 
     /// Runs one interval of the call that `begin_call` started, where each earlier step of it
@@ -312,6 +322,7 @@ impl OneSolver {
         requires { self.old.interval < 2 ^ 20 }
         ensures answer { IsOverOrNone result }
         ensures over { result ≡ StepAnswer.IntervalOver → IsTidy self.old.interval self.new }
+        ensures pushed { OnlyPushed self.old.kernel self.new.kernel }
         ensures interval { result ≢ StepAnswer.IntervalOver → self.new.interval ≡ self.old.interval }
         ensures conflicts { self.new.conflicts ≡ self.old.conflicts }
         ensures assumptions { self.new.assumptions ≡ self.old.assumptions }
@@ -332,6 +343,7 @@ impl OneSolver {
     fn tidy(&mut self, keep: usize) -> Result<(), NoMemory>
         ensures units { OnOk result (IsTrue self.new.kernel.okay → HasNoUnits self.new.kernel) }
         ensures few { OnOk result (HasFewLong keep self.new.kernel) }
+        ensures pushed { OnlyPushed self.old.kernel self.new.kernel }
         ensures same { self.new ≡ record self.old { kernel = self.new.kernel } }
         ensures problem { problem_in self.new ≡ problem_in self.old }
     {

@@ -4,7 +4,8 @@ ghost use Rattle.one_solver.specs.Basic.{IsBasic};
 ghost use Rattle.one_solver.specs.Learned.{numbers_in, NotesLong};
 ghost use Rattle.one_solver.specs.Fixing.{NotesTo};
 ghost use Rattle.state_laws.specs.Kernel.{state_of, TookSame};
-ghost use Rattle.one_solver.specs.Units.{IsLength, FindsShort, HasNoUnits, StayFixed, FixesUnits};
+ghost use Rattle.one_solver.specs.Settled.{OnlyPushed};
+ghost use Rattle.one_solver.specs.Units.{IsLength, FindsShort, HasNoUnits, FixesUnits};
 
 use crate::learned::note_long;
 use clause_store::ClauseStore;
@@ -42,7 +43,7 @@ pub fn fix_units(state: &mut PrivateState) -> Result<(), NoMemory>
     ensures basic { IsBasic state.new }
     ensures same { TookSame state.old state.new }
     ensures fewer { count_by (λ b. b) (state_of state.new).active ≤ count_by (λ b. b) (state_of state.old).active }
-    ensures stays { StayFixed state.old state.new }
+    ensures pushed { OnlyPushed state.old state.new }
     ensures fixed { OnOk result (IsTrue state.new.okay → FixesUnits state.old state.new) }
     ensures left { OnOk result (IsTrue state.new.okay → HasNoUnits state.new) }
 {
@@ -65,7 +66,7 @@ pub fn fix_each(state: &mut PrivateState, ids: &mut Option<Vec<ClauseId>>) -> Re
     ensures basic { IsBasic state.new }
     ensures same { TookSame state.old state.new }
     ensures fewer { count_by (λ b. b) (state_of state.new).active ≤ count_by (λ b. b) (state_of state.old).active }
-    ensures stays { StayFixed state.old state.new }
+    ensures pushed { OnlyPushed state.old state.new }
     ensures fixed { OnOk result (IsTrue state.new.okay → FixesUnits state.old state.new) }
     ensures left { OnOk result (IsTrue state.new.okay → HasNoUnits state.new) }
     ensures noted { OnOk result (NotesLong state.new.store None ids.new) }

@@ -1,20 +1,19 @@
-use Rattle.one_solver.proofs.Settling.{replaced_basic, replaced_stays, same_both, units_stay}
+use Rattle.one_solver.proofs.Freeing.{free_along}
+use Rattle.one_solver.proofs.Eliminating.{OnlyDropped, dropped_left}
+use Rattle.one_solver.proofs.Settling.{dropped_free}
 use Rattle.one_solver.proofs.settle.settle.Goals as goal
+use Rattle.one_solver.proofs.settle.settle.Goals.{After-drop_subsumed}
 
-pub returns-in_err-replace_equivalent-clause-basic : goal.returns-in_err-replace_equivalent-clause-basic
-returns-in_err-replace_equivalent-clause-basic c = replaced_basic c.rounds.state c.replace_equivalent.new.state c.rounds.invariant.basic c.in_err-replace_equivalent.ensures.taken c.in_err-replace_equivalent.ensures.pushed
+dropped : (c : After-drop_subsumed) → OnlyDropped c.fix_units.new.state c.drop_subsumed.new.state
+dropped c = let (n, d) = c.drop_subsumed.ensures.some in record { count = n; dropped = d; same = c.drop_subsumed.ensures.same }
 
-pub fix_units-requires-in-rounds : goal.fix_units-requires-in-rounds
-fix_units-requires-in-rounds c = record { basic = replaced_basic c.rounds.state c.replace_equivalent.new.state c.rounds.invariant.basic c.in_ok-replace_equivalent.ensures.taken c.in_ok-replace_equivalent.ensures.pushed }
+pub repeat_rounds-requires-clause-free : goal.repeat_rounds-requires-clause-free
+repeat_rounds-requires-clause-free c =
+    let d = (goal.at.repeat_rounds-requires-clause-free c).After-drop_subsumed in
+    dropped_free c.fix_units.new.state c.drop_subsumed.new.state c.args.assumptions.now (dropped d)
+    (free_along c.free_lits.new.state c.fix_units.new.state c.args.assumptions.now c.fix_units.ensures.pushed c.in_ok-free_lits.ensures.free)
 
-pub rounds-preserved : goal.rounds-preserved
-rounds-preserved c =
-    record {
-      basic = c.in_ok-fix_units-2.ensures.basic;
-      same = same_both c.args.state.now c.replace_equivalent.new.state c.fix_units-in-rounds.new.state
-          (same_both c.args.state.now c.rounds.state c.replace_equivalent.new.state c.rounds.invariant.same c.in_ok-replace_equivalent.ensures.taken) c.in_ok-fix_units-2.ensures.same;
-      fixed = λ o. units_stay c.args.state.now c.replace_equivalent.new.state c.fix_units-in-rounds.new.state
-          (units_stay c.args.state.now c.rounds.state c.replace_equivalent.new.state (c.rounds.invariant.fixed (c.in_ok-replace_equivalent.ensures.taken.okay (c.in_ok-fix_units-2.ensures.same.okay o)))
-          (replaced_stays c.rounds.state c.replace_equivalent.new.state c.in_ok-replace_equivalent.ensures.pushed)) c.in_ok-fix_units-2.ensures.stays;
-      left = c.in_ok-fix_units-2.ensures.left;
-    }
+pub repeat_rounds-requires-clause-left : goal.repeat_rounds-requires-clause-left
+repeat_rounds-requires-clause-left c =
+    let d = (goal.at.repeat_rounds-requires-clause-left c).After-drop_subsumed in
+    dropped_left c.fix_units.new.state c.drop_subsumed.new.state (dropped d) c.in_ok-fix_units.ensures.left

@@ -1,8 +1,9 @@
-use Rattle.std.proofs.Common.{◌≡◌, true, ap, ◌∙◌}
+use Rattle.std.proofs.Common.{◌≡◌, true, take, ap, ◌∙◌}
 use Rattle.sat_lits.specs.ListLaws.{all_at}
 use Rattle.sat_lits.specs.Formulas.{names_known}
 use Rattle.state_laws.specs.State.{outer_count}
-use Rattle.one_solver.proofs.Taking.{can_take, next_room, basic_taken, taken_next}
+use Rattle.one_solver.specs.Roots.{is_free, lits_of}
+use Rattle.one_solver.proofs.Taking.{can_take, same_count, taken_free, free_at, next_room, basic_taken, taken_next}
 use Rattle.one_solver.proofs.take.take_items.Goals as goal
 
 pub take_input-requires : goal.take_input-requires
@@ -10,7 +11,10 @@ take_input-requires c =
     let known : names_known (outer_count c.args.state.now.definitions) c.item-item.result ≡ true =
     ap (names_known (outer_count c.args.state.now.definitions)) c.item-item.is
     ∙ all_at (names_known (outer_count c.args.state.now.definitions)) c.args.items.now c.loop-item.item-index c.item-item.result c.loop-item-test.true c.requires.known in
-    can_take c.loop-item.state c.item-item.result c.loop-item.invariant.basic (ap (λ n. names_known n c.item-item.result) c.loop-item.invariant.taken.outers ∙ known)
+    can_take c.loop-item.state c.item-item.result
+    (ap (λ n. names_known n c.item-item.result) (same_count c.args.state.now c.loop-item.state (take c.loop-item.item-index c.args.items.now) c.loop-item.invariant.taken) ∙ known)
+    (taken_free c.args.state.now c.loop-item.state (take c.loop-item.item-index c.args.items.now) (lits_of c.item-item.result) c.loop-item.invariant.taken
+    (free_at (is_free c.args.state.now) c.args.items.now c.loop-item.item-index c.item-item.result c.loop-item-test.true c.item-item.is c.requires.free))
     (next_room c.args.state.now c.loop-item.state c.args.items.now c.loop-item.item-index c.item-item.result c.loop-item.invariant.basic c.loop-item.invariant.taken c.loop-item-test.true c.item-item.is c.requires.room)
 
 pub loop-item-preserved : goal.loop-item-preserved

@@ -1,14 +1,18 @@
-use Rattle.std.proofs.Common.{◌≡◌, ◌≤◌, ◌-◌, ℕ, Option, length, option_map, IfSome, refl, subst, sym, ap, ◌∙◌}
+use Rattle.std.proofs.Common.{◌≡◌, ◌≤◌, ◌-◌, ℕ, true, List, Option, length, option_map, IfSome, refl, subst, sym, ap, ◌∙◌}
+use Rattle.std.specs.List.{list_all}
 use Rattle.sat_lits.specs.Conflicts.{own_count}
+use Rattle.sat_lits.specs.declared.literal.Lit.{Lit}
 use Rattle.state_laws.specs.State.{problem_of}
 use Rattle.state_laws.specs.Kernel.{Kernel, state_of, Standing}
 use Rattle.search.specs.Answers.{IsBelow}
 use Rattle.one_solver.specs.Assuming.{IsMappedTo}
 use Rattle.one_solver.specs.Kept.{parts_of}
-use Rattle.one_solver.specs.Parts.{Parts, problem_in}
+use Rattle.one_solver.specs.Parts.{Parts, problem_in, AssumesKnown}
+use Rattle.one_solver.specs.Roots.{is_free}
 use Rattle.one_solver.specs.Steps.{IsUnderWay, StepsRight, SpendsLimit}
 use Rattle.one_solver.proofs.Assumptions.{lits_few, lits_active, still_mapped}
-use Rattle.one_solver.proofs.Counting.{own_few, spends, ends, over_right}
+use Rattle.one_solver.proofs.Counting.{own_few, spends, ends, over_right, still_known}
+use Rattle.one_solver.proofs.Freeing.{free_along}
 use Rattle.one_solver.proofs.solver.OneSolver.search_under.Goals as goal
 use Rattle.one_solver.proofs.solver.OneSolver.search_under.Goals.{After-left_of-left}
 use Rattle.one_solver.proofs.solver.OneSolver.search_under.Given.{Over}
@@ -24,6 +28,13 @@ within g c = subst (λ (s : Parts). IfSome c.args.limit (λ m. s.conflicts ≤ m
 under_way : (g : Over) (c : After-left_of-left g) → IsUnderWay (parts_of c.self.inside)
 under_way g c = subst (λ (s : Parts). IsUnderWay s) (sym c.self.view_is) c.requires.under_way
 
+-- a search leaves what assumptions come to
+searched_free : (k n : Kernel) (lits : List Lit) → n ≡ record k { store = n.store } → list_all (is_free k) lits ≡ true → list_all (is_free n) lits ≡ true
+searched_free k n lits e f = ap (λ (z : Kernel). list_all (is_free z) lits) e ∙ f
+
+searched_known : (old new : Parts) → new.kernel ≡ record old.kernel { store = new.kernel.store } → new.assumptions ≡ old.assumptions → AssumesKnown old → AssumesKnown new
+searched_known old new e f a = still_known old new (ap (λ (k : Kernel). problem_of (state_of k)) e) f (searched_free old.kernel new.kernel old.assumptions e a.free) a
+
 -- there are few own variables
 few : (g : Over) (c : After-left_of-left g) → length c.self.inside.state.maps.inners ≤ own_count (problem_in (parts_of c.self.inside))
 few g c = own_few c.self.inside.state (subst (λ (s : Parts). Standing s.kernel) (sym c.self.view_is) c.requires.standing) c.self.invariant
@@ -37,7 +48,8 @@ returns-in-IntervalOver-clause-right g c =
     (over_right old c.end_interval.new.self c.args.limit (g.S.Alarm.raises c.args.stop.now) (g.S.Alarm.raises c.run_interval-answer.new.stop) c.end_interval.result c.end_interval.ensures.answer
     (λ e. ends old c.end_interval.new.self c.args.limit made (length old.kernel.maps.inners) (under_way g d) (within g d) c.in-IntervalOver.ensures.ends.0
     (subst (λ (o : Option ℕ). IsBelow made o) (left g d) c.in-IntervalOver.ensures.ends.1) c.in-IntervalOver.ensures.own (few g d) (c.end_interval.ensures.conflicts ∙ c.in-IntervalOver.ensures.tallied) (c.end_interval.ensures.over e)
-    (c.end_interval.ensures.problem ∙ ap (λ (k : Kernel). problem_of (state_of k)) c.in-IntervalOver.ensures.learned.same) c.end_interval.ensures.assumptions))
+    (c.end_interval.ensures.problem ∙ ap (λ (k : Kernel). problem_of (state_of k)) c.in-IntervalOver.ensures.learned.same) c.end_interval.ensures.assumptions
+    (free_along c.run_interval-answer.new.state c.end_interval.new.self.kernel old.assumptions c.end_interval.ensures.pushed (searched_free old.kernel c.run_interval-answer.new.state old.assumptions c.in-IntervalOver.ensures.learned.same (under_way g d).assumed.free))))
 
 pub returns-in-Spent-clause-right : goal.returns-in-Spent-clause-right
 returns-in-Spent-clause-right g c =
@@ -67,3 +79,13 @@ pub unsat_under-requires-clause-ready : goal.unsat_under-requires-clause-ready
 unsat_under-requires-clause-ready g c =
     let d : After-left_of-left g = (goal.at.unsat_under-requires-clause-ready g c).After-left_of-left in
     still_mapped (parts_of c.self.inside) (record (parts_of c.self.inside) { kernel = c.run_interval-answer.new.state }) c.args.lits.now c.args.positions.now c.in-Failed.ensures.learned.same refl (ready g d)
+
+pub sat-requires-clause-assumed : goal.sat-requires-clause-assumed
+sat-requires-clause-assumed g c =
+    let d : After-left_of-left g = (goal.at.sat-requires-clause-assumed g c).After-left_of-left in
+    searched_known (parts_of c.self.inside) (record (parts_of c.self.inside) { kernel = c.run_interval-answer.new.state; conflicts = c.run_interval-answer.new.tally }) c.in-Model.ensures.learned.same refl (under_way g d).assumed
+
+pub unsat_under-requires-clause-assumed : goal.unsat_under-requires-clause-assumed
+unsat_under-requires-clause-assumed g c =
+    let d : After-left_of-left g = (goal.at.unsat_under-requires-clause-assumed g c).After-left_of-left in
+    searched_known (parts_of c.self.inside) (record (parts_of c.self.inside) { kernel = c.run_interval-answer.new.state; conflicts = c.run_interval-answer.new.tally }) c.in-Failed.ensures.learned.same refl (under_way g d).assumed

@@ -31,7 +31,7 @@ returns-then-not-okay-clause-right g c =
 pub map_assumptions-requires-clause-takable : goal.map_assumptions-requires-clause-takable
 map_assumptions-requires-clause-takable g c =
     subst (λ (ls : List Lit). Takable (state_of c.self.inside.state) ls) (sym c.as_slice.ensures)
-    (takable (parts_of c.self.inside) c.self.invariant (subst (λ (s : Parts). AssumesKnown s) (sym c.self.view_is) c.requires.under_way.assumed))
+    (takable (parts_of c.self.inside) (subst (λ (s : Parts). AssumesKnown s) (sym c.self.view_is) c.requires.under_way.assumed))
 
 -- what the assumptions of the call were mapped to
 mapped : (s : Parts) (inside : Kernel) (assumptions : List Lit) (m : Mapped) → inside ≡ s.kernel → assumptions ≡ s.assumptions → IsMapped inside assumptions m → IsMapped s.kernel s.assumptions m

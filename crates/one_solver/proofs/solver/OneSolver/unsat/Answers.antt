@@ -14,7 +14,7 @@ refute-requires c = subst (λ (s : Parts). IsContradicted (state_of s.kernel)) (
 pub returns-clause-right : goal.returns-clause-right
 returns-clause-right c =
     let old = c.self.invariant in
-    let basic : IsBasic c.refute.new.self = subst (λ (k : Kernel). IsBasic k) (sym c.refute.ensures.value) (record { entries = old.entries; few = old.few; kept = old.kept }) in
+    let basic : IsBasic c.refute.new.self = subst (λ (k : Kernel). IsBasic k) (sym c.refute.ensures.value) (record { entries = old.entries; few = old.few }) in
     subst (λ (s : Parts). HasNoModel (problem_in s)) c.self.view_is
     (subst (λ (k : Kernel). HasNoModel (problem_of (state_of k))) c.refute.ensures.value
     (no_model c.refute.new.self c.refute.ensures.standing basic (ap (λ (k : Kernel). k.okay) c.refute.ensures.value)))
