@@ -146,9 +146,6 @@ came_back k n vars r =
     let (cs, e) = back_hard r.restored (state_of k) (state_of n) r.moves in
     record { same = restored_TookSame r.restored k n r.moves; okay = back_okay r.restored (state_of k) (state_of n) r.moves; clauses = cs; hard = e }
 
-pub nothing_came : (k : Kernel) → CameBack k k
-nothing_came k = record { same = record { items = refl; entries = refl; definitions = refl; okay = λ o. o }; okay = refl; clauses = []; hard = sym (append-nil (state_of k).hard) }
-
 -- the variables of a clause's literals are there
 pub lits_there : (n : ℕ) (lits : List Lit) → names_known n (Clause lits) ≡ true → list_all (λ l. nat_lt l.var.0 n) lits ≡ true
 lits_there n lits h = sym (list_all-map (λ m. nat_lt m n) (λ (l : Lit). l.var.0) lits) ∙ h
@@ -156,10 +153,3 @@ lits_there n lits h = sym (list_all-map (λ m. nat_lt m n) (λ (l : Lit). l.var.
 -- and those of a parity
 pub vars_there : (n : ℕ) (vars : List Var) (rhs : Bool) → names_known n (Parity vars rhs) ≡ true → list_all (λ v. nat_lt v.0 n) vars ≡ true
 vars_there n vars rhs h = sym (list_all-map (λ m. nat_lt m n) (λ (v : Var). v.0) vars) ∙ h
-
--- the literals of an item more are noted
-pub items_next : (k : Kernel) (old new : List Own) (items : List Item) (i : ℕ) (x : Item) → old ≡ lost_vars k (all_lits (take i items)) → new ≡ old ++ lost_vars k (lits_of x) → x ≡ get_or items i x → i < length items
-    → new ≡ lost_vars k (all_lits (take (i + 1) items))
-items_next k old new items i x o n e l =
-    n ∙ (ap (λ z. z ++ lost_vars k (lits_of x)) o
-    ∙ (sym (flat_map-append (λ y. lost_var (root_in k y)) (all_lits (take i items)) (lits_of x)) ∙ ap (lost_vars k) (flat_map_more lits_of [] (take i items) x ∙ ap all_lits (sym (read_at items i x e l)))))

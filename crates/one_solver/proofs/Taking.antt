@@ -184,9 +184,6 @@ pub took_all : (f : Problem) (g n : Kernel) (more : List Item) → outer_count g
 took_all f g n more v e h =
     ap₂ (λ (x : ℕ) (y : List Item). let z : Problem = record { vars = x; items = y } in z) (same_count g n more h ∙ v) (h.items ∙ sym e)
 
-pub took_front : (f : Problem) (g n : Kernel) (more : List Item) → outer_count g.definitions ≡ f.vars → f.items ≡ g.items ++ more → HasTaken g n more → Extends (problem_of (state_of n)) f
-took_front f g n more v e h = subst (λ (x : Problem). Extends x f) (sym (took_all f g n more v e h)) (Extends_itself f)
-
 -- what was taken goes on from what was taken before
 pub took_longer : (f : Problem) (k g n : Kernel) (more : List Item) → outer_count g.definitions ≡ f.vars → outer_count k.definitions ≤ f.vars → g.items ≡ k.items → HasTaken g n more → Extends (problem_of (state_of k)) (problem_of (state_of n))
 took_longer f k g n more v w e h = record {
