@@ -1,5 +1,5 @@
 -- Each move keeps what is met, and so do changes one after another.
-use Rattle.std.proofs.Common.{◌≡◌, ℕ, true, false, List, Option, refl, ◌∙◌}
+use Rattle.std.proofs.Common.{◌≡◌, ℕ, true, false, List, Option, refl, sym, ap, subst, ◌∙◌}
 use Rattle.std.proofs.lemmas.Bool.{false≢true}
 use Rattle.std.specs.List.{list_all}
 use Rattle.sat_lits.specs.declared.literal.Lit.{Lit}
@@ -14,6 +14,7 @@ use Rattle.state_laws.specs.State.{State}
 use Rattle.state_laws.specs.Stands.{IsPlaced}
 use Rattle.state_laws.specs.Moves.{put_into, eliminated, restored, taking, taken, learning, with_learned, with_hard, extended, grown, refuted}
 use Rattle.state_laws.specs.Conditions.{Restorable}
+use Rattle.state_laws.specs.Kernel.{Kernel, state_of, plain_kernel}
 use Rattle.sync_laws.specs.Met.{KeepsMet, are_subsumed}
 use Rattle.sync_laws.specs.MetLaws.{put_into-IsMet, eliminated-IsMet, restored-IsMet, taking-IsMet, taken-IsMet, learning-IsMet, with_learned-IsMet, with_hard-IsMet, extended-IsMet, grown-IsMet, refuted-IsMet}
 
@@ -24,6 +25,18 @@ keeps_refl s = record { met = λ c m. m; entries = refl; okay = λ o. o }
 -- one change after another
 pub keeps_trans : (s t u : State) → KeepsMet s t → KeepsMet t u → KeepsMet s u
 keeps_trans s t u a b = record { met = λ c m. b.met c (a.met c m); entries = b.entries ∙ a.entries; okay = λ o. a.okay (b.okay o) }
+
+-- where the new state is one to which a change keeps
+pub keeps_as : (s t u : State) → u ≡ t → KeepsMet s t → KeepsMet s u
+keeps_as s t u e k = subst (λ (z : State). KeepsMet s z) (sym e) k
+
+-- where it is the old one
+pub keeps_same : (s t : State) → t ≡ s → KeepsMet s t
+keeps_same s t e = keeps_as s s t e (keeps_refl s)
+
+-- or where the room alone is another
+pub plain-KeepsMet : (k n : Kernel) → plain_kernel n ≡ plain_kernel k → KeepsMet (state_of k) (state_of n)
+plain-KeepsMet k n e = keeps_same (state_of k) (state_of n) (ap state_of e)
 
 -- an entry that fixes or replaces a variable is put in
 pub put_into-KeepsMet : (e : Entry) (s : State) → is_gone e ≡ false → KeepsMet s (put_into e s)
