@@ -2,9 +2,12 @@
 use Rattle.std.proofs.Common.{◌≡◌, List, [], ◌∷◌, ◌++◌, refl, sym, ap, subst, ◌∙◌}
 use Rattle.sat_lits.specs.declared.literal.Own.{Own}
 use Rattle.state_laws.specs.State.{State}
+use Rattle.state_laws.specs.Moves.{restored}
 use Rattle.state_laws.specs.Stands.{Stands}
 use Rattle.state_laws.specs.RestoreLaws.{restored-Stands}
 use Rattle.state_laws.specs.Kernel.{Kernel, state_of, TookSame}
+use Rattle.sync_laws.specs.Met.{KeepsMet}
+use Rattle.sync_laws.specs.KeepLaws.{keeps_same, keeps_as, keeps_trans, restored-KeepsMet}
 use Rattle.private_state.specs.Restoring.{Restores}
 use Rattle.restore_var.specs.Restored.{AreRestored}
 
@@ -14,9 +17,20 @@ restored_more [] s t u v a r = (u, (subst (λ (z : State). Restores z u v) a r, 
 restored_more (w ∷ vs) s t u v a r = (a.0, (a.1.0, restored_more vs a.0 t u v a.1.1 r))
 
 -- the state stands
+one_stands : (s t : State) (v : Own) → Restores s t v → Stands s → Stands t
+one_stands s t v r h = subst (λ (z : State). Stands z) (sym r.becomes) (restored-Stands r.place v r.clauses s r.restorable h)
+
 pub still_stands : (vs : List Own) (s t : State) → AreRestored vs s t → Stands s → Stands t
 still_stands [] s t a h = subst (λ (z : State). Stands z) (sym a) h
-still_stands (v ∷ vs) s t a h = still_stands vs a.0 t a.1.1 (subst (λ (z : State). Stands z) (sym a.1.0.becomes) (restored-Stands a.1.0.place v a.1.0.clauses s a.1.0.restorable h))
+still_stands (v ∷ vs) s t a h = still_stands vs a.0 t a.1.1 (one_stands s a.0 v a.1.0 h)
+
+-- each clause that was met is met
+pub restored_KeepsMet : (vs : List Own) (s t : State) → AreRestored vs s t → Stands s → KeepsMet s t
+restored_KeepsMet [] s t a h = keeps_same s t a
+restored_KeepsMet (v ∷ vs) s t a h = keeps_trans s a.0 t (one a.0 a.1.0) (restored_KeepsMet vs a.0 t a.1.1 (one_stands s a.0 v a.1.0 h))
+  where
+    one : (m : State) → Restores s m v → KeepsMet s m
+    one m r = keeps_as s (restored r.place v r.clauses s) m r.becomes (restored-KeepsMet r.place v r.clauses s r.restorable h.places)
 
 same_parts : {X : Type 0} (f : State → X) → ((s t : State) (v : Own) → Restores s t v → f t ≡ f s) → (vs : List Own) (s t : State) → AreRestored vs s t → f t ≡ f s
 same_parts f h [] s t a = ap f a

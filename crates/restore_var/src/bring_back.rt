@@ -3,6 +3,7 @@ ghost use Rattle.std.specs.List.{list_any};
 ghost use Rattle.rebuild_stack.specs.Entries.{is_block_of};
 ghost use Rattle.rebuild_stack.specs.declared.entry.Entry.{Entry};
 ghost use Rattle.state_laws.specs.Kernel.{state_of, Standing};
+ghost use Rattle.sync_laws.specs.Met.{KeepsMet};
 ghost use Rattle.restore_var.specs.Marks.{is_marked};
 ghost use Rattle.restore_var.specs.Needs.{none_gone, is_closed, stays, marked_block, AreFree};
 ghost use Rattle.restore_var.specs.Restored.{RestoresMarked, RestoresNeeded};
@@ -57,13 +58,15 @@ fn any_gone(state: &PrivateState, vars: &[Own]) -> bool
 /// Brings back the variables that are eliminated, and first every newer eliminated one that their
 /// clauses need, each by `restore_one`. Where none of them is eliminated it does nothing. Afterwards
 /// none of them is eliminated, and no literal that came to one of them comes to an eliminated variable.
-/// The only error is want of memory: then some of these variables may have come back.
+/// The only error is want of memory: then some of these variables may have come back. Each shared
+/// clause that was met stays so, then too.
 ///
 /// A call that brings back a variable walks over the stack twice, whatever the number of variables.
 pub fn restore(alloc: Global, state: &mut PrivateState, vars: &[Own]) -> Result<(), NoMemory>
     ensures back { OnOk result (none_gone state.new.stack vars.now ≡ true) }
     ensures free { OnOk result (AreFree vars.now state.old.stack state.new.stack) }
     ensures moves { RestoresNeeded vars.now (state_of state.old) (state_of state.new) }
+    ensures kept { KeepsMet (state_of state.old) (state_of state.new) }
 {
     if !any_gone(state, vars) {
         return Ok(());

@@ -4,6 +4,8 @@ use Rattle.rebuild_stack.specs.declared.entry.Entry.{Entry}
 use Rattle.state_laws.specs.Kernel.{state_of}
 use Rattle.restore_var.specs.Marks.{is_marked}
 use Rattle.restore_var.specs.Needs.{none_gone, AreFree}
+use Rattle.restore_var.specs.Restored.{RestoresMarked}
+use Rattle.restore_var.specs.RestoredLaws.{restored_KeepsMet}
 use Rattle.restore_var.proofs.Needing.{free_none}
 use Rattle.restore_var.proofs.Restoring.{none_found, none_left, all_free, among_marked, needed_moves}
 use Rattle.restore_var.proofs.bring_back.restore.Goals as goal
@@ -29,3 +31,8 @@ returns-clause-free c =
 
 pub returns-clause-moves : goal.returns-clause-moves
 returns-clause-moves c = needed_moves (is_marked c.in_ok-marks.marks) c.args.vars.now (state_of c.args.state.now) (state_of c.restore_marked.new.state) c.in_ok-marks.ensures.needed c.restore_marked.ensures.moves
+
+pub returns-clause-kept : goal.returns-clause-kept
+returns-clause-kept c =
+    let moves : RestoresMarked (is_marked c.in_ok-marks.marks) (state_of c.args.state.now) (state_of c.restore_marked.new.state) = c.restore_marked.ensures.moves in
+    restored_KeepsMet moves.restored (state_of c.args.state.now) (state_of c.restore_marked.new.state) moves.moves c.in_ok-marks.ensures.standing.stands
