@@ -81,3 +81,11 @@ grown-KeepsMet more s = record { met = λ c m. grown-IsMet more s c m; entries =
 -- the state is refuted
 pub refuted-KeepsMet : (s : State) → KeepsMet s (refuted s)
 refuted-KeepsMet s = record { met = λ c m. refuted-IsMet s c m; entries = refl; okay = λ o. absurd (false≢true o) }
+
+-- the same of a kernel in which an entry is put that fixes or replaces a variable
+pub pushed-KeepsMet : (k n : Kernel) (e : Entry) → is_gone e ≡ false → state_of n ≡ put_into e (state_of k) → KeepsMet (state_of k) (state_of n)
+pushed-KeepsMet k n e g h = keeps_as (state_of k) (put_into e (state_of k)) (state_of n) h (put_into-KeepsMet e (state_of k) g)
+
+-- and of one that is refuted
+pub refuting-KeepsMet : (k n : Kernel) → n ≡ record k { okay = false } → KeepsMet (state_of k) (state_of n)
+refuting-KeepsMet k n e = keeps_as (state_of k) (refuted (state_of k)) (state_of n) (ap state_of e) (refuted-KeepsMet (state_of k))
