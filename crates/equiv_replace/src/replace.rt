@@ -2,6 +2,7 @@ ghost use Rattle.std.specs.Prelude.{◌≡◌, ◌<◌, ◌≤◌, ◌+◌, ◌*
 ghost use Rattle.std.specs.List.{list_all};
 ghost use Rattle.sat_lits.specs.declared.literal.OwnLit.{OwnLit};
 ghost use Rattle.state_laws.specs.Kernel.{state_of, TookSame};
+ghost use Rattle.sync_laws.specs.Met.{KeepsMet};
 ghost use Rattle.equiv_replace.specs.Binary.{AreOnOneCycle, HasNoCycles, opposite};
 ghost use Rattle.equiv_replace.specs.Nodes.{lit_of, are_below, edges_of, IsBinaryGraph};
 ghost use Rattle.equiv_replace.specs.Replaced.{IsGraphOf, Replaced, OnlyReplaced, HasOpposites, IsReplacing};
@@ -62,6 +63,7 @@ fn replace_one(state: &mut PrivateState, roots: &[u32], var: Inner) -> Result<bo
     ensures replaced { IfOk result (λ replaced. Replaced state.old state.new (if replaced then 1 else 0)) }
     ensures taken { TookSame state.old state.new }
     ensures pushed { OnlyReplaced state.old state.new }
+    ensures kept { KeepsMet (state_of state.old) (state_of state.new) }
 {
     let root = lit_of(roots[2 * var.0 as usize]);
     if root.var.0 == var.0 {
@@ -87,6 +89,7 @@ fn replace_all(state: &mut PrivateState, roots: &[u32], vars: u32) -> Result<u64
     ensures replaced { IfOk result (λ count. Replaced state.old state.new count) }
     ensures taken { TookSame state.old state.new }
     ensures pushed { OnlyReplaced state.old state.new }
+    ensures kept { KeepsMet (state_of state.old) (state_of state.new) }
 {
     let mut count = 0;
     'each: for var in 0..vars {
@@ -111,6 +114,7 @@ fn replace_on_cycles(
     ensures opposite { OnOk result ((a : OwnLit) → AreOnOneCycle (state_of state.old).hard a (opposite a) → state.new.okay ≡ false) }
     ensures taken { TookSame state.old state.new }
     ensures pushed { OnlyReplaced state.old state.new }
+    ensures kept { KeepsMet (state_of state.old) (state_of state.new) }
 {
     let roots = roots(alloc, graph)?;
     if has_opposites(&roots) {
@@ -124,7 +128,7 @@ fn replace_on_cycles(
 /// Replaces variables that lie on cycles of binary hard clauses by one of each cycle, and tells how
 /// many it replaced. Where a literal lies on a cycle with its opposite, it replaces none and refutes
 /// the state. The only error is want of memory, as which 2147483648 binary clauses count too; it may
-/// come after some replacements.
+/// come after some replacements. Each shared clause that was met stays so, then too.
 ///
 /// The cycles are those of the implication graph (Aspvall, Plass and Tarjan, 1979), whose strongly
 /// connected components are found by a path of parts (Gabow, 2000). It takes the time of one walk
@@ -136,6 +140,7 @@ pub fn replace_equivalent(alloc: Global, state: &mut PrivateState) -> Result<u64
     ensures opposite { OnOk result ((a : OwnLit) → AreOnOneCycle (state_of state.old).hard a (opposite a) → state.new.okay ≡ false) }
     ensures taken { TookSame state.old state.new }
     ensures pushed { OnlyReplaced state.old state.new }
+    ensures kept { KeepsMet (state_of state.old) (state_of state.new) }
 {
     let vars = state.maps().inner_len();
     match binary_graph(alloc, state.clauses(), vars)? {

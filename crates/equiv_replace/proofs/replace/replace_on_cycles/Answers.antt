@@ -1,5 +1,6 @@
 use Rattle.std.proofs.Common.{◌∙◌, ◌*◌, List, ℕ, ap, sym, refl, subst, length}
 use Rattle.std.proofs.lemmas.Bool.{true≢false}
+use Rattle.sync_laws.specs.KeepLaws.{refuting-KeepsMet}
 use Rattle.equiv_replace.specs.Replaced.{HasOpposites, IsReplacing}
 use Rattle.equiv_replace.proofs.Ending.{edges_inside, starts, contradicts, finds_opposites, ends_without_cycles}
 use Rattle.equiv_replace.proofs.Replacing.{none_replaced}
@@ -34,3 +35,6 @@ returns-clause-opposite c = λ a o.
 
 pub returns-in_err-roots-clause-pushed : goal.returns-in_err-roots-clause-pushed
 returns-in_err-roots-clause-pushed c = none_replaced c.args.state.now c.args.state.now refl refl
+
+pub returns-then-has_opposites-clause-kept : goal.returns-then-has_opposites-clause-kept
+returns-then-has_opposites-clause-kept c = refuting-KeepsMet c.args.state.now c.refute.new.self c.refute.ensures.value

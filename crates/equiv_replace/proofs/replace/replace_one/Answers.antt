@@ -1,7 +1,9 @@
-use Rattle.std.proofs.Common.{◌≡◌, ◌≢◌, ◌∙◌, ap, sym, Some, subst}
+use Rattle.std.proofs.Common.{◌≡◌, ◌≢◌, ◌∙◌, ap, sym, refl, Some, subst}
 use Rattle.std.specs.Option.{is_some}
 use Rattle.sat_lits.specs.declared.literal.InLit.{InLit}
 use Rattle.var_maps.specs.Maps.{Maps, Matched, owner_at}
+use Rattle.rebuild_stack.specs.declared.entry.Entry.TheVariants.{Equal}
+use Rattle.sync_laws.specs.KeepLaws.{plain-KeepsMet, pushed-KeepsMet}
 use Rattle.equiv_replace.specs.Replaced.{IsUsed, root_var}
 use Rattle.equiv_replace.proofs.Replacing.{root_used, pushable_root, root_follows, replaced_step, replaced_one, owner_active, only_one_replaced}
 use Rattle.equiv_replace.proofs.replace.replace_one.Goals as goal
@@ -56,3 +58,10 @@ returns-clause-pushed c =
     (replaced_one c.args.state.now c.replace.new.self c.in-Some.own (record { var = c.unwrap.result; negative = c.lit_of-root.result.negative })
     (owner_active c.args.state.now.maps c.args.var.0 c.in-Some.own (subst (λ (m : Maps). Matched m) c.maps.ensures.value c.in-Some.ensures.matched) (ap (λ (m : Maps). owner_at m c.args.var.0) (sym c.maps.ensures.value) ∙ sym c.in-Some.ensures.value))
     c.in_ok-replace.ensures.ok)
+
+pub returns-clause-kept : goal.returns-clause-kept
+returns-clause-kept c =
+    pushed-KeepsMet c.args.state.now c.replace.new.self (Equal c.in-Some.own (record { var = c.unwrap.result; negative = c.lit_of-root.result.negative })) refl c.in_ok-replace.ensures.ok
+
+pub returns-in_err-replace-clause-kept : goal.returns-in_err-replace-clause-kept
+returns-in_err-replace-clause-kept c = plain-KeepsMet c.args.state.now c.replace.new.self c.in_err-replace.ensures.err
