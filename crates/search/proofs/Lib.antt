@@ -14,3 +14,4 @@ pub mod Failing
 pub mod Modelling
 pub mod Running
 pub mod Roots
+pub mod Keeping

@@ -1,5 +1,7 @@
 ghost use Rattle.std.specs.Prelude.{◌≡◌, ◌<◌, ◌≤◌, ◌^◌, length, IsTrue};
 ghost use Rattle.analyze.specs.Counting.{saturated};
+ghost use Rattle.state_laws.specs.Kernel.{state_of};
+ghost use Rattle.sync_laws.specs.Met.{KeepsMet};
 ghost use Rattle.search.specs.InUse.{in_use, lits_among};
 ghost use Rattle.search.specs.Answers.{AnswersRight, EndsRight, LearnsRight, own_length};
 
@@ -55,8 +57,9 @@ impl Search {
     ///
     /// A conflict counts where a clause was learned from it, and the tally rises by these alone.
     /// Each such clause is added to the learned ones and is new: it has not all literals of one
-    /// that stood before it. Nothing else of the state changes. The interval makes fewer conflicts
-    /// than 3 to the number of active variables, and so than 3 to the number of own ones.
+    /// that stood before it. Nothing else of the state changes, so each shared clause that was met
+    /// stays so. The interval makes fewer conflicts than 3 to the number of active variables, and so
+    /// than 3 to the number of own ones.
     pub fn run_interval<S: Alarm>(
         &mut self,
         state: &mut PrivateState,
@@ -71,6 +74,7 @@ impl Search {
         ensures right { AnswersRight state.new assumptions.now (S.raises stop.old) (S.raises stop.new) result }
         ensures ends { EndsRight (own_length interval) left self.new result }
         ensures learned { LearnsRight state.old state.new self.new result }
+        ensures kept { KeepsMet (state_of state.old) (state_of state.new) }
         ensures few { self.new < 3 ^ length (in_use state.old.maps) }
         ensures own { self.new < 3 ^ length state.old.maps.inners }
         ensures tallied { tally.new ≡ saturated tally.old self.new }

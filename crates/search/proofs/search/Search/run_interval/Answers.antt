@@ -4,6 +4,7 @@ use Rattle.sat_lits.specs.declared.literal.Own.{Own}
 use Rattle.var_maps.specs.Maps.{Maps, Matched}
 use Rattle.search_laws.specs.NumberLaws.{bounded_start, bounded_end}
 use Rattle.search.specs.InUse.{owned_from, in_use}
+use Rattle.search.proofs.Keeping.{interval_keeps}
 use Rattle.search.proofs.search.Search.run_interval.Goals as goal
 
 -- no conflict is few enough
@@ -38,3 +39,6 @@ returns-then-is_err-clause-own g c = subst (λ (n : ℕ). n < 3 ^ length c.args.
 
 pub returns-clause-own : goal.returns-clause-own
 returns-clause-own g c = few_own c.args.state.now.maps c.run.new.self.conflicts (search rules) c.run.ensures.few
+
+pub returns-clause-kept : goal.returns-clause-kept
+returns-clause-kept g c = interval_keeps c.args.state.now c.run.new.state c.run.new.self.conflicts c.run.result c.run.ensures.learned
