@@ -3,3 +3,4 @@ pub mod Marking
 pub mod Subsuming
 pub mod Implying
 pub mod Counting
+pub mod Meeting

@@ -1,6 +1,8 @@
 ghost use Rattle.std.specs.Prelude.{◌≡◌, ◌∷◌, [], Some, ℕ, false, if◌then◌else◌, filter, true, IfOk, OnErr, IsTrue};
 ghost use Rattle.clause_store.specs.Store.{Held, IsKept, clause_at, is_live};
 ghost use Rattle.indexed_store.specs.Occurrences.{clauses_at};
+ghost use Rattle.state_laws.specs.Kernel.{state_of};
+ghost use Rattle.sync_laws.specs.Met.{KeepsMet};
 ghost use Rattle.var_elim.specs.Subsumption.{subsumes};
 ghost use Rattle.var_elim.specs.Dropping.{IsHard, Drops, HasNoSubsumed, AreCovered, subsumes_none_at};
 ghost use Rattle.var_elim.specs.Marked.{IsMarked};
@@ -101,6 +103,7 @@ pub fn drop_subsumed(alloc: Global, state: &mut PrivateState) -> Result<u64, NoM
     ensures some { (n : ℕ) × Drops n state.old.store.held state.new.store.held }
     ensures covered { AreCovered state.old.store.held state.new.store.held }
     ensures same { state.new ≡ record state.old { store = record state.old.store { held = state.new.store.held } } }
+    ensures met { KeepsMet (state_of state.old) (state_of state.new) }
 {
     let ids = all_ids(alloc, state.clauses())?;
     let mut dropped = 0;

@@ -3,6 +3,7 @@ ghost use Rattle.std.specs.List.{list_any};
 ghost use Rattle.var_maps.specs.Maps.{outer_at};
 ghost use Rattle.state_laws.specs.Moves.{eliminated};
 ghost use Rattle.state_laws.specs.Kernel.{state_of, plain_kernel, TookSame};
+ghost use Rattle.sync_laws.specs.Met.{KeepsMet};
 ghost use Rattle.var_elim.specs.Eliminating.{Eliminates, NoneCanGo, can_go, keeps, is_left};
 
 use private_state::PrivateState;
@@ -97,6 +98,7 @@ pub fn eliminate_some(
     ensures none { IfOk result (λ n. n ≡ 0 → NoneCanGo state.new frozen.now kept_by) }
     ensures some { (n : ℕ) × Eliminates n (is_left state.old.maps frozen.now kept_by) (state_of state.old) (state_of state.new) }
     ensures same { TookSame state.old state.new }
+    ensures met { KeepsMet (state_of state.old) (state_of state.new) }
 {
     let left = left_vars(alloc, state.maps(), frozen, kept_by)?;
     let mut count = 0;

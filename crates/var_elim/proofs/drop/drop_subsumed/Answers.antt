@@ -4,7 +4,9 @@ use Rattle.indexed_store.specs.declared.short_id.ShortId.{ShortId}
 use Rattle.clause_store.specs.Store.{Held, clause_at}
 use Rattle.indexed_store.specs.Occurrences.{clauses_at}
 use Rattle.var_elim.specs.Dropping.{Drops, HasNoSubsumed, subsumes_none, subsumes_none_at}
-use Rattle.state_laws.specs.Kernel.{Kernel}
+use Rattle.state_laws.specs.Kernel.{Kernel, state_of}
+use Rattle.sync_laws.specs.KeepLaws.{keeps_refl}
+use Rattle.var_elim.proofs.Meeting.{drops_met}
 use Rattle.var_elim.proofs.Implying.{drops_covered}
 use Rattle.var_elim.proofs.Counting.{drops_zero, drops_none, drops_more, drops_bound, named_bound, same_more, all_more}
 use Rattle.var_elim.proofs.drop.drop_subsumed.Goals as goal
@@ -51,3 +53,15 @@ returns-in_err-more-clause-covered c =
 
 pub returns-clause-covered : goal.returns-clause-covered
 returns-clause-covered c = drops_covered c.each.dropped c.args.state.now.store.held c.each.state.store.held (rw c.clauses.ensures.value at c.all_ids.ensures.kept.rises) c.each.invariant.drops
+
+pub returns-in_err-ids-clause-met : goal.returns-in_err-ids-clause-met
+returns-in_err-ids-clause-met c = keeps_refl (state_of c.args.state.now)
+
+pub returns-in_err-more-clause-met : goal.returns-in_err-more-clause-met
+returns-in_err-more-clause-met c =
+    drops_met c.each.dropped c.args.state.now c.drop_all_by_any.new.state (rw c.clauses.ensures.value at c.all_ids.ensures.kept.rises)
+    (same_more c.args.state.now c.each.state c.drop_all_by_any.new.state c.each.invariant.same c.drop_all_by_any.ensures.same)
+    (subst (λ (k : Kernel). Drops c.each.dropped c.args.state.now.store.held k.store.held) (sym c.in_err-more.ensures.err) c.each.invariant.drops)
+
+pub returns-clause-met : goal.returns-clause-met
+returns-clause-met c = drops_met c.each.dropped c.args.state.now c.each.state (rw c.clauses.ensures.value at c.all_ids.ensures.kept.rises) c.each.invariant.same c.each.invariant.drops

@@ -2,6 +2,8 @@ use Rattle.std.proofs.Common.{◌≡◌, ◌∙◌, ◌<◌, ap, sym, subst, ari
 use Rattle.var_maps.specs.Maps.{Maps}
 use Rattle.state_laws.specs.Kernel.{Kernel, state_of}
 use Rattle.var_elim.specs.Eliminating.{Eliminates, can_go, is_left}
+use Rattle.sync_laws.specs.KeepLaws.{keeps_refl}
+use Rattle.var_elim.proofs.Meeting.{eliminates_met}
 use Rattle.var_elim.proofs.EliminatingLaws.{eliminates_more, eliminates_same, eliminates_took, could_go, none_step, plain_state}
 use Rattle.var_elim.proofs.eliminate.eliminate_some.Goals.{then-branch, else-branch}
 use Rattle.var_elim.proofs.eliminate.eliminate_some.Goals as goal
@@ -14,6 +16,19 @@ returns-in_err-eliminate_unless-clause-same c =
 
 pub returns-clause-same : goal.returns-clause-same
 returns-clause-same c = eliminates_took c.each.count (is_left c.args.state.now.maps c.args.frozen.now c.args.kept_by) c.args.state.now c.each.state c.each.invariant.done
+
+pub returns-in_err-eliminate_unless-clause-met : goal.returns-in_err-eliminate_unless-clause-met
+returns-in_err-eliminate_unless-clause-met c =
+    eliminates_met c.each.count (is_left c.args.state.now.maps c.args.frozen.now c.args.kept_by) (state_of c.args.state.now) (state_of c.eliminate_unless.new.state) c.maps.ensures.standing.stands
+    (eliminates_same c.each.count (is_left c.args.state.now.maps c.args.frozen.now c.args.kept_by) (state_of c.args.state.now) (state_of c.each.state) (state_of c.eliminate_unless.new.state)
+    (plain_state c.each.state c.eliminate_unless.new.state c.in_err-eliminate_unless.ensures.err) c.each.invariant.done)
+
+pub returns-in_err-left-clause-met : goal.returns-in_err-left-clause-met
+returns-in_err-left-clause-met c = keeps_refl (state_of c.args.state.now)
+
+pub returns-clause-met : goal.returns-clause-met
+returns-clause-met c =
+    eliminates_met c.each.count (is_left c.args.state.now.maps c.args.frozen.now c.args.kept_by) (state_of c.args.state.now) (state_of c.each.state) c.maps.ensures.standing.stands c.each.invariant.done
 
 pub each-preserved : goal.each-preserved
 each-preserved c =
