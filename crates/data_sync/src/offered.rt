@@ -4,15 +4,17 @@ ghost use Rattle.data_sync.specs.Giving.{Gives};
 
 use sat_lits::{Lit, NoMemory};
 use share_store::Store;
+use smallvec::SmallVec;
 use std::alloc::Global;
 use std::marker::Model;
 
 /// The clauses that one walk over a state offered last, in its order. Each of them stands in the
-/// log, so that the next walk, which mostly meets them again, need not look them up there.
+/// log, so that the next walk, which mostly meets them again, need not look them up there. A clause of
+/// one or two literals takes no allocation of its own.
 #[derive(Debug, Drop)]
 pub(crate) struct Offered {
     alloc: Global,
-    clauses: Vec<Vec<Lit>>,
+    clauses: Vec<SmallVec<Lit, 2>>,
     // The number of clauses that the walk met.
     met: usize,
 }
@@ -69,7 +71,8 @@ impl Offered {
         }
         store.offer(solver, after, clause)?;
         self.clauses.truncate(self.met);
-        self.clauses.push(Vec::from_slice(self.alloc, clause)?)?;
+        self.clauses
+            .push(SmallVec::from_slice(self.alloc, clause)?)?;
         self.met = self.clauses.len();
         Ok(())
     }

@@ -1,5 +1,6 @@
-use Rattle.std.proofs.Common.{◌∙◌, ap, sym, subst, List, ◌∷◌, [], ◌++◌, map, Vec, Global, Ok}
+use Rattle.std.proofs.Common.{◌∙◌, ap, sym, subst, List, ◌∷◌, [], ◌++◌, map, Ok}
 use Rattle.std.specs.List.{All}
+use Rattle.smallvec.specs.SmallVec.{SmallVec}
 use Rattle.sat_lits.specs.declared.literal.Lit.{Lit}
 use Rattle.sat_lits.specs.declared.shared.Shared.{Shared}
 use Rattle.share_store.specs.Log.{HasClause}
@@ -14,9 +15,9 @@ has c =
     (λ q. c.in_ok-offer.ensures.unchanged (ap (λ o. Ok o) q)) (λ q. c.in_ok-offer.ensures.known.0 (ap (λ o. Ok o) q)) (λ q. c.in_ok-offer.ensures.appended (ap (λ o. Ok o) q))
 
 -- and what it had
-known : (c : In_ok-offer) → All (HasClause c.offer.new.self) (map (λ (v : Vec Lit Global). v.items) c.self.inside.clauses.items)
+known : (c : In_ok-offer) → All (HasClause c.offer.new.self) (map (λ (v : SmallVec Lit). v.items) c.self.inside.clauses.items)
 known c =
-    gives_all c.args.store.now c.offer.new.self c.args.solver c.args.after c.args.clause.now (map (λ (v : Vec Lit Global). v.items) c.self.inside.clauses.items)
+    gives_all c.args.store.now c.offer.new.self c.args.solver c.args.after c.args.clause.now (map (λ (v : SmallVec Lit). v.items) c.self.inside.clauses.items)
     (offer_gives c.in_ok-offer.field-0 c.args.store.now c.offer.new.self c.args.solver c.args.after c.args.clause.now
     (λ q. c.in_ok-offer.ensures.unchanged (ap (λ o. Ok o) q)) (λ q. c.in_ok-offer.ensures.fresh (ap (λ o. Ok o) q)) (λ q. c.in_ok-offer.ensures.appended (ap (λ o. Ok o) q)))
     (subst (All (HasClause c.args.store.now)) (sym c.self.view_is) c.requires.known)
@@ -32,19 +33,20 @@ returns-in_err-offer-clause-known c = subst (λ (z : List Shared). All (HasClaus
 
 pub returns-in_err-from_slice-clause-known : goal.returns-in_err-from_slice-clause-known
 returns-in_err-from_slice-clause-known c =
-    subst (λ (z : List (Vec Lit Global)). All (HasClause c.offer.new.self) (map (λ (v : Vec Lit Global). v.items) z)) (sym c.truncate.ensures.items)
-    (offered_front (λ (v : Vec Lit Global). v.items) c.offer.new.self c.self.inside.met c.self.inside.clauses.items (known ((goal.at.returns-in_err-from_slice-clause-known c).In_ok-offer)))
+    subst (λ (z : List (SmallVec Lit)). All (HasClause c.offer.new.self) (map (λ (v : SmallVec Lit). v.items) z)) (sym c.truncate.ensures.items)
+    (offered_front (λ (v : SmallVec Lit). v.items) c.offer.new.self c.self.inside.met c.self.inside.clauses.items (known ((goal.at.returns-in_err-from_slice-clause-known c).In_ok-offer)))
 
 pub returns-in_err-push-clause-known : goal.returns-in_err-push-clause-known
 returns-in_err-push-clause-known c =
-    subst (λ (z : List (Vec Lit Global)). All (HasClause c.offer.new.self) (map (λ (v : Vec Lit Global). v.items) z)) (sym (c.in_err-push.ensures.items ∙ c.truncate.ensures.items))
-    (offered_front (λ (v : Vec Lit Global). v.items) c.offer.new.self c.self.inside.met c.self.inside.clauses.items (known ((goal.at.returns-in_err-push-clause-known c).In_ok-offer)))
+    subst (λ (z : List (SmallVec Lit)). All (HasClause c.offer.new.self) (map (λ (v : SmallVec Lit). v.items) z)) (sym (c.in_err-push.ensures.items ∙ c.truncate.ensures.items))
+    (offered_front (λ (v : SmallVec Lit). v.items) c.offer.new.self c.self.inside.met c.self.inside.clauses.items (known ((goal.at.returns-in_err-push-clause-known c).In_ok-offer)))
 
 pub returns-clause-has : goal.returns-clause-has
 returns-clause-has c = has ((goal.at.returns-clause-has c).In_ok-offer)
 
 pub returns-clause-known : goal.returns-clause-known
 returns-clause-known c =
-    subst (λ (z : List (Vec Lit Global)). All (HasClause c.offer.new.self) (map (λ (v : Vec Lit Global). v.items) z)) (sym (c.in_ok-push.ensures.items ∙ ap (λ (z : List (Vec Lit Global)). z ++ c.in_ok-from_slice.field-0 ∷ []) c.truncate.ensures.items))
-    (offered_more (λ (v : Vec Lit Global). v.items) c.offer.new.self c.self.inside.met c.self.inside.clauses.items c.in_ok-from_slice.field-0 (known ((goal.at.returns-clause-known c).In_ok-offer))
-    (subst (HasClause c.offer.new.self) (sym c.in_ok-from_slice.ensures.items) (has ((goal.at.returns-clause-known c).In_ok-offer))))
+    subst (λ (z : List (SmallVec Lit)). All (HasClause c.offer.new.self) (map (λ (v : SmallVec Lit). v.items) z))
+    (sym (c.in_ok-push.ensures.items ∙ ap (λ (z : List (SmallVec Lit)). z ++ c.in_ok-from_slice.field-0 ∷ []) c.truncate.ensures.items))
+    (offered_more (λ (v : SmallVec Lit). v.items) c.offer.new.self c.self.inside.met c.self.inside.clauses.items c.in_ok-from_slice.field-0 (known ((goal.at.returns-clause-known c).In_ok-offer))
+    (subst (HasClause c.offer.new.self) (sym c.in_ok-from_slice.ensures.ok) (has ((goal.at.returns-clause-known c).In_ok-offer))))
