@@ -3,3 +3,4 @@ pub mod Reading
 pub mod Reviving
 pub mod Resolving
 pub mod Importing
+pub mod Exceeding

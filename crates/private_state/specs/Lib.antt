@@ -7,3 +7,4 @@ pub mod Restoring
 pub mod MovingLaws
 pub mod Bounds
 pub mod Resolving
+pub mod Pairs

@@ -9,6 +9,7 @@ ghost use Rattle.private_state.specs.Bounds.{meets_bound};
 ghost use Rattle.removed_vars.specs.Fresh.{Stores};
 ghost use Rattle.private_state.specs.Resolving.{TakesOut};
 
+use crate::exceed::exceeds_bound;
 use crate::resolve::{resolve, resolve_within_bound};
 use crate::state::PrivateState;
 use crate::take_out::{TakenOut, take_out};
@@ -45,6 +46,10 @@ impl PrivateState {
         ensures left { IfOk result (λ done. IsFalse done → self.new ≡ self.old) }
         ensures err { OnErr result (plain_kernel self.new ≡ plain_kernel self.old) }
     {
+        // Most variables go no further, so they cost no memory.
+        if exceeds_bound(&self.maps, &self.store, var) {
+            return Ok(false);
+        }
         let taken = take_out(self.alloc, &self.maps, &self.store, var)?;
         let Some(fresh) = resolve_within_bound(self.alloc, &self.maps, &taken.block, var)? else {
             return Ok(false);

@@ -7,6 +7,7 @@
 
 mod bound;
 mod eliminate;
+mod exceed;
 mod import;
 mod resolve;
 mod restore;

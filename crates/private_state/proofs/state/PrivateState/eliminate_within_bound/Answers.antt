@@ -7,3 +7,6 @@ use Rattle.private_state.proofs.state.PrivateState.eliminate_within_bound.Goals 
 
 pub resolve_within_bound-requires : goal.resolve_within_bound-requires
 resolve_within_bound-requires c = ap (each_lit (has_inner c.self.inside.maps)) c.in_ok-taken.ensures.taken.block ∙ block_active (kernel_of c.self.inside) c.args.var.0 c.self.invariant.standing
+
+pub exceeds_bound-requires-clause-active : goal.exceeds_bound-requires-clause-active
+exceeds_bound-requires-clause-active c = block_active (kernel_of c.self.inside) c.args.var.0 c.self.invariant.standing
