@@ -103,3 +103,17 @@ same_lits hs i h lits e f = same h.lits lits (sym (ap (option_map (λ (k : Held)
 pub none_at : (h : Held) (o : Option Held) → subsumes_at h o ≡ false → filter (subsumes h) (cons_option o []) ≡ []
 none_at h None e = refl
 none_at h (Some k) e = ap (λ b. cond b (k ∷ []) []) e
+
+-- the same of a clause whose literals are at hand
+pub subsumed_lits : (s : Store) (i j : ℕ) (h : Held) (lits outer : List InLit) (learned : Bool) → (i ≡ j → ⊥) → clause_at s.held i ≡ Some h → option_map (λ k. k.lits) (clause_at s.held i) ≡ Some lits
+    → option_map (λ k. k.learned) (clause_at s.held j) ≡ Some learned → option_map (λ k. k.lits) (clause_at s.held j) ≡ Some outer → subsumes_at h (clause_at s.held j) ≡ (not learned && is_within lits outer)
+subsumed_lits s i j h lits outer learned n e f a b = go (clause_at s.held j) refl a b
+  where
+    same_bool : (x y : Bool) → Some x ≡ Some y → x ≡ y
+    same_bool x y q = cc
+
+    go : (o : Option Held) → clause_at s.held j ≡ o → option_map (λ k. k.learned) o ≡ Some learned → option_map (λ k. k.lits) o ≡ Some outer → subsumes_at h o ≡ (not learned && is_within lits outer)
+    go None g p q = cc
+    go (Some k) g p q =
+        ap (λ z. not z && (not k.learned && is_within h.lits k.lits)) (ne_eqb h.id k.id (λ z. absurd (n (sym (id_found s.held i h e) ∙ (z ∙ id_found s.held j k g)))))
+        ∙ ap₂ {C = Bool} (λ z w. not z && w) (same_bool k.learned learned p) (ap₂ {C = Bool} is_within (same_lits s.held i h lits e f) (same_lits s.held j k outer g (ap (option_map (λ (x : Held). x.lits)) g ∙ q)))

@@ -7,7 +7,7 @@ ghost use Rattle.var_elim.specs.Subsumption.{subsumes};
 ghost use Rattle.var_elim.specs.Dropping.{IsHard, Drops, HasNoSubsumed, AreCovered, subsumes_none_at};
 ghost use Rattle.var_elim.specs.Marked.{IsMarked};
 
-use crate::subsume::{Subsumer, is_subsumed, rarest, subsumer_of};
+use crate::subsume::{Subsumer, is_subsumed, rarest, stands_alone, subsumer_of};
 use clause_store::ClauseStore;
 use indexed_store::ShortId;
 use private_state::PrivateState;
@@ -87,6 +87,10 @@ fn drop_all_by_any(alloc: Global, state: &mut PrivateState, id: ClauseId) -> Res
     ensures err { OnErr result (state.new ≡ state.old) }
 {
     if !state.clauses().is_live(id) || state.clauses().is_learned(id) {
+        return Ok(0);
+    }
+    // Most clauses stand in no other, so they cost no memory.
+    if stands_alone(state, id) {
         return Ok(0);
     }
     let dropped = drop_all_by(alloc, state, id)?;

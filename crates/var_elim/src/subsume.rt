@@ -1,8 +1,9 @@
-ghost use Rattle.std.specs.Prelude.{◌≡◌, ◌<◌, true, Some, length, IfOk};
+ghost use Rattle.std.specs.Prelude.{◌≡◌, ◌<◌, [], true, Some, filter, length, option_map, IfOk, IsTrue};
 ghost use Rattle.std.specs.List.{list_any};
-ghost use Rattle.clause_store.specs.Store.{Held, IsKept, clause_at};
+ghost use Rattle.sat_lits.specs.InLits.{same_lit};
+ghost use Rattle.clause_store.specs.Store.{Held, IsKept, clause_at, is_live};
 ghost use Rattle.indexed_store.specs.Lists.{is_in};
-ghost use Rattle.var_elim.specs.Subsumption.{subsumes_at};
+ghost use Rattle.var_elim.specs.Subsumption.{is_within, subsumes, subsumes_at};
 ghost use Rattle.var_elim.specs.Dropping.{IsHard};
 ghost use Rattle.var_elim.specs.Marked.{IsMarked};
 
@@ -12,6 +13,10 @@ use private_state::PrivateState;
 use sat_lits::{ClauseId, InLit, Inner, NoMemory};
 use std::alloc::Global;
 use std::collections::HashSet;
+
+/// How long a clause may be whose literals are looked for one by one. Those of a longer one are
+/// marked.
+const MOST_COMPARED: usize = 8;
 
 /// A hard clause, all of whose literals other clauses may have: its id, how many literals it has,
 /// and the numbers of these.
@@ -51,6 +56,51 @@ pub(crate) fn is_subsumed(store: &ClauseStore, by: &Subsumer, id: ClauseId) -> b
         return false;
     }
     !store.is_learned(id) && has_marked(&by.marks, by.len, store.lits(id))
+}
+
+/// Whether a literal stands in a clause.
+fn has_lit(lits: &[InLit], lit: InLit) -> bool
+    ensures { result ≡ list_any (same_lit lit) lits.now }
+{
+    lits.iter().any(|other| lit.var == other.var && lit.negative == other.negative)
+}
+
+/// Whether all literals of a short clause stand in another.
+fn is_within(inner: &[InLit], outer: &[InLit]) -> bool
+    ensures { result ≡ is_within inner.now outer.now }
+{
+    inner.iter().all(|lit| has_lit(outer, *lit))
+}
+
+/// Whether an id is that of a hard clause, other than that of a given id, with all its literals.
+fn stands_in(store: &ClauseStore, by: ClauseId, lits: &[InLit], id: ClauseId) -> bool
+    requires { option_map (λ clause. clause.lits) (clause_at store.now.held by.0) ≡ Some lits.now }
+    ensures { (h : Held) → clause_at store.now.held by.0 ≡ Some h → result ≡ subsumes_at h (clause_at store.now.held id.0) }
+{
+    if !store.is_live(id) || by == id {
+        return false;
+    }
+    !store.is_learned(id) && is_within(lits, store.lits(id))
+}
+
+/// Whether no other hard clause has all literals of that of a live id. It takes no memory. It answers
+/// no without a look where the clause is long, or has no literal.
+pub(crate) fn stands_alone(state: &PrivateState, by: ClauseId) -> bool
+    requires { IsTrue (is_live state.now.store.held by.0) }
+    ensures { IsTrue result → (h : Held) → clause_at state.now.store.held by.0 ≡ Some h → filter (subsumes h) state.now.store.held ≡ [] }
+{
+    let store = state.clauses();
+    let lits = store.lits(by);
+    if lits.is_empty() || lits.len() > MOST_COMPARED {
+        return false;
+    }
+    let ids = state.occurrences(rarest(state, lits));
+    'each: for id in ids {
+        if stands_in(store, by, lits, id.whole()) {
+            return false;
+        }
+    }
+    true
 }
 
 /// The variable of a literal that has the shortest occurrence list.
