@@ -38,6 +38,7 @@ enum Topic {
     UnderAssumptions,
     AskedAgain,
     EquivalentVariables,
+    NamedAgain,
     Parities,
     ParitiesAlone,
     MoreAfterAnswers,
@@ -52,12 +53,13 @@ enum Topic {
 }
 
 /// The topics in order.
-const TOPICS: [Topic; 16] = [
+const TOPICS: [Topic; 17] = [
     Topic::FirstQuestion,
     Topic::OneModel,
     Topic::UnderAssumptions,
     Topic::AskedAgain,
     Topic::EquivalentVariables,
+    Topic::NamedAgain,
     Topic::Parities,
     Topic::ParitiesAlone,
     Topic::MoreAfterAnswers,
@@ -97,6 +99,7 @@ fn show_on<R: Print + AllocGlobal + Threads + Sync>(
         Topic::UnderAssumptions => under_assumptions(rt, solver),
         Topic::AskedAgain => asked_again(rt, solver),
         Topic::EquivalentVariables => equivalent_variables(rt, solver),
+        Topic::NamedAgain => named_again(rt, solver),
         Topic::Parities => a_parity_more(rt, solver),
         Topic::ParitiesAlone => parities_alone(rt, solver),
         Topic::MoreAfterAnswers => more_after_answers(rt, solver),
@@ -218,6 +221,28 @@ fn equivalent_variables<R: Print + AllocGlobal + Threads + Sync>(
     read(rt, solver)?;
     ask_under(rt, solver, &[2])?;
     read(rt, solver)
+}
+
+/// Clauses and assumptions that name variables which the questions before them had no more need of.
+fn named_again<R: Print + AllocGlobal + Threads + Sync>(
+    rt: &R,
+    solver: &mut SatSolver,
+) -> Result<(), TourError> {
+    println!(rt; "# Variables that are named again")?;
+    new_vars(rt, solver, 4)?;
+    add_clause(rt, solver, &[-1, 2])?;
+    add_clause(rt, solver, &[-2, 3])?;
+    add_clause(rt, solver, &[-3, 4])?;
+    ask(rt, solver)?;
+    ask_under(rt, solver, &[1, -4])?;
+    read(rt, solver)?;
+    ask_under(rt, solver, &[1])?;
+    read(rt, solver)?;
+    add_clause(rt, solver, &[-4])?;
+    add_clause(rt, solver, &[3, 1])?;
+    ask(rt, solver)?;
+    read(rt, solver)?;
+    read_okay(rt, solver)
 }
 
 /// A parity that the only model of some clauses does not satisfy. One that is refused is not taken.
