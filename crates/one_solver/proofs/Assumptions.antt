@@ -8,8 +8,8 @@ use Rattle.std.proofs.lemmas.List as listed
 use Rattle.std.proofs.lemmas.List.Folds.{list_all-map}
 use Rattle.std.proofs.Math.ListN.{get_or-map}
 use Rattle.sat_lits.specs.Truth.{signed}
-use Rattle.sat_lits.specs.ListLaws.{all_mono, all_agree, both_all, all_at}
-use Rattle.sat_lits.specs.Meaning.{IsModel, is_true}
+use Rattle.sat_lits.specs.ListLaws.{all_mono, all_agree, both_all, all_at, all_from_get}
+use Rattle.sat_lits.specs.Meaning.{IsModel, is_true, satisfies_clause}
 use Rattle.sat_lits.specs.Verdicts.{makes_true}
 use Rattle.sat_lits.specs.declared.literal.Lit.{Lit}
 use Rattle.sat_lits.specs.declared.literal.Own.{Own}
@@ -19,7 +19,7 @@ use Rattle.rebuild_stack.specs.Values.{values_of, own_value}
 use Rattle.rebuild_stack.specs.Roots.{root}
 use Rattle.propagate.specs.Reasons.{lit_value}
 use Rattle.var_maps.specs.Maps.{Maps, Matched, owner_at}
-use Rattle.state_laws.specs.State.{problem_of, satisfies_entries, to_own, widen}
+use Rattle.state_laws.specs.State.{to_own, widen}
 use Rattle.state_laws.specs.Conditions.{Takable}
 use Rattle.state_laws.specs.Theorems.{Fits, Confirms}
 use Rattle.state_laws.specs.WidenLaws.{widened_confirm}
@@ -32,23 +32,23 @@ use Rattle.search.specs.InUse.{owned_from, in_use, is_among, lits_among}
 use Rattle.assume_map.specs.Roots.{roots}
 use Rattle.assume_map.specs.Mapping.{IsReady, IsClash}
 use Rattle.assume_map.specs.MappingLaws.{clash_contradicts, ready_has_values, ready_is_rebuilt}
-use Rattle.one_solver.specs.Basic.{IsBasic}
-use Rattle.one_solver.specs.Parts.{Parts, problem_in, AssumesKnown}
+use Rattle.one_solver.specs.Parts.{Parts, problem_in, AssumesKnown, CanAssume}
+use Rattle.one_solver.specs.InStep.{EntriesFollow, entry_follows}
 use Rattle.one_solver.specs.Assuming.{IsMappedTo, AreContradicted}
 use Rattle.one_solver.proofs.Taking.{clause_takable}
 use Rattle.one_solver.proofs.Refuting.{inner_of, held_inner}
 
 -- the assumptions can be mapped
-pub takable : (s : Parts) → AssumesKnown s → Takable (state_of s.kernel) s.assumptions
-takable s a = clause_takable s.kernel s.assumptions a.known a.free
+pub takable : (s : Parts) → CanAssume s → Takable (state_of s.kernel) s.assumptions
+takable s a = clause_takable s.kernel s.assumptions a.assumed.known a.free
 
--- a model fits what was taken where that are no shared entries
-fits : (k : Kernel) (values : List Bool) → IsBasic k → IsModel (problem_of (state_of k)) values → Fits (state_of k) values
-fits k values b m = record { model = m; entries = ap (λ (es : List Shared). satisfies_entries values es) b.entries }
+-- a model fits what was taken where the shared entries follow from the items
+fits : (s : Parts) (values : List Bool) → EntriesFollow s → IsModel (problem_in s) values → Fits (state_of s.kernel) values
+fits s values f m = record { model = m; entries = all_from_get (λ (e : Shared). satisfies_clause values e.clause) s.kernel.entries (λ at e g. entry_follows s f at e g values m) }
 
 -- assumptions that clash contradict the items
-pub clash_contradicted : (s : Parts) (positions : List ℕ) → Standing s.kernel → IsBasic s.kernel → AssumesKnown s → IsClash (roots (state_of s.kernel) s.assumptions) positions → AreContradicted (problem_in s) s.assumptions positions
-clash_contradicted s positions st b a c = λ values m. clash_contradicts s.kernel s.assumptions positions st (takable s a) c values (fits s.kernel values b m)
+pub clash_contradicted : (s : Parts) (positions : List ℕ) → Standing s.kernel → EntriesFollow s → CanAssume s → IsClash (roots (state_of s.kernel) s.assumptions) positions → AreContradicted (problem_in s) s.assumptions positions
+clash_contradicted s positions st f a c = λ values m. clash_contradicts s.kernel s.assumptions positions st (takable s a) c values (fits s values f m)
 
 pub roots_long : (s : Parts) → length (roots (state_of s.kernel) s.assumptions) ≡ length s.assumptions
 roots_long s = length-map s.assumptions (λ (l : Lit). root s.kernel.stack (to_own s.kernel.definitions l))
@@ -59,10 +59,10 @@ positions_of positions places = map (λ p. get_or positions p 0) places
 
 module _ (s : Parts) (lits : List InLit) (positions : List ℕ) (r : IsMappedTo s lits positions) where
   -- assumptions whose literals contradict the clauses contradict the items
-  pub failed_contradict_items : (failed : List ℕ) → Standing s.kernel → IsBasic s.kernel → AssumesKnown s → AreFailed s.kernel.store.held lits failed → AreContradicted (problem_in s) s.assumptions (positions_of positions failed)
-  failed_contradict_items failed st b a f = λ values m.
+  pub failed_contradict_items : (failed : List ℕ) → Standing s.kernel → EntriesFollow s → CanAssume s → AreFailed s.kernel.store.held lits failed → AreContradicted (problem_in s) s.assumptions (positions_of positions failed)
+  failed_contradict_items failed st e a f = λ values m.
       let w : ℕ → Bool = values_of (widen values s.kernel.definitions) in
-      let t : Fits (state_of s.kernel) values = fits s.kernel values b m in
+      let t : Fits (state_of s.kernel) values = fits s values e m in
       let c : Confirms (state_of s.kernel) w = widened_confirm (state_of s.kernel) st.stands values t in
       list_all-map (λ p. is_true values (get_or s.assumptions p (record { var = record { 0 = 0 }; negative = false }))) (λ p. get_or positions p 0) failed
       ∙ (sym (all_agree (λ p. nat_lt p (length lits)) (λ p. lit_value (inner_of s.kernel w) (assumption_at lits p)) (λ p. is_true values (get_or s.assumptions (get_or positions p 0) (record { var = record { 0 = 0 }; negative = false })))
@@ -119,8 +119,8 @@ module _ (s : Parts) (lits : List InLit) (positions : List ℕ) (r : IsMappedTo 
           omega (arith, roots_long s)
 
   -- a model under the literals is rebuilt to a model under the assumptions
-  pub rebuilt_true : (values out : List Bool) → Standing s.kernel → Matched s.kernel.maps → IsBasic s.kernel → AssumesKnown s → IsInnerModel s.kernel lits values → out ≡ rebuilt_values s.kernel values → makes_true out s.assumptions ≡ true
-  rebuilt_true values out st m b a i e =
+  pub rebuilt_true : (values out : List Bool) → Standing s.kernel → Matched s.kernel.maps → CanAssume s → IsInnerModel s.kernel lits values → out ≡ rebuilt_values s.kernel values → makes_true out s.assumptions ≡ true
+  rebuilt_true values out st m a i e =
       ap (λ (vs : List Bool). makes_true vs s.assumptions) e
       ∙ ready_is_rebuilt s.kernel s.assumptions lits positions st (takable s a) r (values_of (map (inner_value values) s.kernel.maps.inners))
       (both_all (in_value values) (λ l. is_some (owner_at s.kernel.maps l.var.0)) (λ l. own_value (values_of (map (inner_value values) s.kernel.maps.inners)) (own_of s.kernel.maps l)) each lits i.assumed r.kept.owned)

@@ -1,7 +1,6 @@
 -- The conflicts of a call.
 use Rattle.std.proofs.Common.{◌≡◌, ℕ, zero, suc, ◌+◌, ◌-◌, ◌^◌, ◌<◌, ◌≤◌, Bool, true, false, cond, List, [], Option, Some, None, refl, sym, ap, subst, ◌∙◌, ⊎_elim, length, map, sum, option_map, arith, rules, IfSome, ltb, ltb-true}
 use Rattle.std.specs.Option.{is_some}
-use Rattle.std.specs.List.{list_all}
 use Rattle.std.proofs.Math.Nat.{pow-le-pow_right}
 use Rattle.std.proofs.lemmas.Bool.{cases_lt}
 use Rattle.std.proofs.lemmas.List.{length-map}
@@ -19,7 +18,6 @@ use Rattle.search.specs.Answers.{own_length, IsBelow}
 use Rattle.one_solver.specs.declared.answer.StepAnswer.{StepAnswer}
 use Rattle.one_solver.specs.declared.answer.StepAnswer.TheVariants.{Verdict, IntervalOver, Spent, Asked, Memory}
 use Rattle.one_solver.specs.Basic.{IsBasic}
-use Rattle.one_solver.specs.Roots.{is_free}
 use Rattle.one_solver.specs.Parts.{Parts, problem_in, AssumesKnown}
 use Rattle.one_solver.specs.Steps.{IsVerdictOrNone, IsUnderWay, IsTidy, EndsInterval, SpendsLimit, StepsRight, IsOverOrNone, HasNoModel}
 
@@ -92,18 +90,17 @@ in_range : (i : ℕ) → i ≤ 2 ^ 20 → intervals_len i < 2 ^ 64 - 1
 in_range i h = let l : intervals_len i ≤ intervals_len 1048576 = no_fewer i 1048576 h in omega arith
 
 -- the variables of the same assumptions are still there
-pub still_known : (old new : Parts) → problem_in new ≡ problem_in old → new.assumptions ≡ old.assumptions → list_all (is_free new.kernel) old.assumptions ≡ true → AssumesKnown old → AssumesKnown new
-still_known old new same kept f a = record {
-  free = ap (list_all (is_free new.kernel)) kept ∙ f;
+pub still_known : (old new : Parts) → problem_in new ≡ problem_in old → new.assumptions ≡ old.assumptions → AssumesKnown old → AssumesKnown new
+still_known old new same kept a = record {
   known = ap (λ (f : Problem). names_known f.vars (Clause new.assumptions)) same ∙ (ap (λ (ls : List Lit). names_known (problem_in old).vars (Clause ls)) kept ∙ a.known);
   few = subst (λ (ls : List Lit). length ls < 2 ^ 32) (sym kept) a.few;
 }
 
 -- an interval was made whole
 pub ends : (old new : Parts) (limit : Option ℕ) (c a : ℕ) → IsUnderWay old → IfSome limit (λ m. old.conflicts ≤ m) → own_length old.interval ≡ Some c → IsBelow c (option_map (λ m. m - old.conflicts) limit)
-    → c < 3 ^ a → a ≤ own_count (problem_in old) → new.conflicts ≡ saturated old.conflicts c → IsTidy old.interval new → problem_in new ≡ problem_in old → new.assumptions ≡ old.assumptions → list_all (is_free new.kernel) old.assumptions ≡ true → EndsInterval old new limit
-ends old new limit c a u w own below few active t tidy same kept free = record {
-  under_way = record { counted = counted; few = (let l : old.interval < 2 ^ 20 = first.0 in omega arith); short = short; assumed = still_known old new same kept free u.assumed };
+    → c < 3 ^ a → a ≤ own_count (problem_in old) → new.conflicts ≡ saturated old.conflicts c → IsTidy old.interval new → problem_in new ≡ problem_in old → new.assumptions ≡ old.assumptions → EndsInterval old new limit
+ends old new limit c a u w own below few active t tidy same kept = record {
+  under_way = record { counted = counted; few = (let l : old.interval < 2 ^ 20 = first.0 in omega arith); short = short; assumed = still_known old new same kept u.assumed };
   counted = more;
   few = first.0;
   tidy = tidy;

@@ -1,5 +1,5 @@
 -- What is kept where variables are eliminated, but those that are left of assumptions.
-use Rattle.std.proofs.Common.{◌≡◌, ℕ, ◌+◌, ◌==◌, Bool, true, false, cond, not, ◌||◌, List, [], ◌∷◌, ◌++◌, refl, sym, ap, subst, ◌∙◌, filter, map, set, count_by, length, arith, append_assoc, append-nil}
+use Rattle.std.proofs.Common.{◌≡◌, ℕ, ◌+◌, ◌==◌, Bool, true, false, cond, not, List, [], ◌∷◌, ◌++◌, refl, sym, ap, subst, ◌∙◌, filter, map, count_by, length, arith, append_assoc, append-nil}
 use Rattle.std.specs.List.{list_all}
 use Rattle.std.proofs.lemmas.Bool.{and_parts, and_from, or_left, eqb-true, false≢true}
 use Rattle.sat_lits.specs.ListLaws.{both_all, all_mono}
@@ -17,7 +17,7 @@ use Rattle.state_laws.specs.Held.{own_clauses}
 use Rattle.state_laws.specs.State.{State, to_own}
 use Rattle.state_laws.specs.Moves.{eliminated}
 use Rattle.state_laws.specs.Resolution.{mentions}
-use Rattle.state_laws.specs.Kernel.{Kernel, state_of, TookSame}
+use Rattle.state_laws.specs.Kernel.{Kernel, state_of}
 use Rattle.var_elim.specs.Eliminating.{eliminate_each, AllCanGo, Eliminates, is_left}
 use Rattle.var_elim.specs.Dropping.{Drops, without_each}
 use Rattle.restore_var.specs.Needs.{is_among}

@@ -3,7 +3,7 @@ use Rattle.std.proofs.Common.{◌≡◌, ℕ, ◌+◌, ◌<◌, ◌≤◌, ◌==
 use Rattle.std.specs.List.{list_any, list_all, cons_option}
 use Rattle.std.specs.Bool.{beq}
 use Rattle.std.proofs.lemmas.Bool.{and_parts, and_from, or_cases, or_left, or_right, eqb-true, eq-eqb, false≢true, true≢false, not-true}
-use Rattle.std.proofs.lemmas.List.Folds.{list_any-append, list_all-append}
+use Rattle.std.proofs.lemmas.List.Folds.{list_any-append}
 use Rattle.std.proofs.lemmas.List.Sums.{sum_by-set}
 use Rattle.sat_lits.specs.Conflicts.{own_count}
 use Rattle.sat_lits.specs.ListLaws.{all_or_any, any_mono, any_filter, all_push}
@@ -223,7 +223,6 @@ pub fixing_step : (first k n : Kernel) (o : OwnLit) → Standing k → is_active
 fixing_step first k n o s a e h =
     record {
       basic = record {
-        entries = ap (λ (z : State). z.entries) e ∙ h.basic.entries;
         few = subst (λ (z : State). length z.definitions ≤ own_count (problem_of z)) (sym e) h.basic.few;
       };
       same = record {
@@ -284,7 +283,7 @@ fixing_end first k h n l u = ⊎_elim (λ f. absurd (none (is_unit (same_lit l))
 
 -- new ids of clauses change nothing of this
 pub renumbered_basic : (k n : Kernel) → n ≡ record k { store = n.store } → IsBasic k → IsBasic n
-renumbered_basic k n e b = subst (λ (z : Kernel). IsBasic z) (sym e) (record { entries = b.entries; few = b.few })
+renumbered_basic k n e b = subst (λ (z : Kernel). IsBasic z) (sym e) (record { few = b.few })
 
 pub renumbered_same : (first k n : Kernel) → n ≡ record k { store = n.store } → TookSame first k → TookSame first n
 renumbered_same first k n e t = subst (λ (z : Kernel). TookSame first z) (sym e) (record { items = t.items; entries = t.entries; definitions = t.definitions; okay = t.okay })

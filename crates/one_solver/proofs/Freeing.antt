@@ -1,9 +1,8 @@
 -- Variables that come back, so that literals come to no eliminated one.
-use Rattle.std.proofs.Common.{◌≡◌, ℕ, suc, ◌+◌, ◌<◌, ◌==◌, Bool, true, false, cond, not, ◌&&◌, ◌||◌, List, [], ◌∷◌, ◌++◌, Some, refl, sym, ap, subst, ◌∙◌, length, map, get_or, take, drop, nat_lt, append_assoc, append-nil, eq-eqb, arith}
-use Rattle.std.specs.List.{list_all, list_any, flat_map, slice_get}
+use Rattle.std.proofs.Common.{◌≡◌, ℕ, suc, ◌==◌, Bool, true, false, cond, not, List, [], ◌∷◌, ◌++◌, refl, sym, ap, ◌∙◌, drop, nat_lt, append_assoc, append-nil, eq-eqb}
+use Rattle.std.specs.List.{list_all, flat_map}
 use Rattle.std.proofs.lemmas.Bool.{and_parts, and_from, or_left, or_right, false≢true}
-use Rattle.std.proofs.lemmas.List.{flat_map_more, map-append}
-use Rattle.std.proofs.lemmas.List.Concat.{flat_map-cons, flat_map-append}
+use Rattle.std.proofs.lemmas.List.Concat.{flat_map-cons}
 use Rattle.std.proofs.lemmas.List.Folds.{list_all-map, list_any-append}
 use Rattle.sat_lits.specs.Truth.{signed}
 use Rattle.sat_lits.specs.ListLaws.{all_mono, all_from_get, any_get}
@@ -12,7 +11,6 @@ use Rattle.sat_lits.specs.declared.literal.Lit.{Lit}
 use Rattle.sat_lits.specs.declared.literal.Own.{Own}
 use Rattle.sat_lits.specs.declared.literal.OwnLit.{OwnLit}
 use Rattle.sat_lits.specs.declared.literal.Var.{Var}
-use Rattle.sat_lits.specs.declared.formula.Item.{Item}
 use Rattle.sat_lits.specs.declared.formula.Item.TheVariants.{Clause, Parity}
 use Rattle.rebuild_stack.specs.Entries.{is_gone}
 use Rattle.rebuild_stack.specs.Roots.{root, root_passes, is_lost, turned}
@@ -23,11 +21,10 @@ use Rattle.rebuild_stack.specs.declared.entry.Root.{Root}
 use Rattle.rebuild_stack.specs.declared.entry.Root.TheVariants.{Known, Last, Lost}
 use Rattle.state_laws.specs.State.{State, to_own}
 use Rattle.state_laws.specs.Kernel.{Kernel, state_of}
-use Rattle.removed_vars.specs.CollectLaws.{read_at}
 use Rattle.restore_var.specs.Needs.{is_among, all_pass, leads_to, AreFree}
 use Rattle.restore_var.specs.Restored.{AreRestored, RestoresNeeded}
 use Rattle.restore_var.specs.RestoredLaws.{restored_TookSame}
-use Rattle.one_solver.specs.Roots.{root_in, is_free, lost_var, last_var, lost_vars, last_vars, lits_of, all_lits}
+use Rattle.one_solver.specs.Roots.{root_in, is_free, lost_var, last_var, lost_vars, last_vars}
 use Rattle.one_solver.specs.Settled.{OnlyPushed, CameBack}
 
 -- what newer entries make of what a literal came to

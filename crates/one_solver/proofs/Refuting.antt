@@ -1,17 +1,14 @@
 -- A solver that is not okay has no model.
-use Rattle.std.proofs.Common.{◌≡◌, ℕ, Bool, true, false, List, [], Some, ap, sym, ◌∙◌, length}
-use Rattle.std.specs.List.{list_all, slice_get}
+use Rattle.std.proofs.Common.{◌≡◌, ℕ, Bool, true, false, List, [], ap, sym, ◌∙◌, length}
+use Rattle.std.specs.List.{list_all}
 use Rattle.sat_lits.specs.Truth.{clause_value}
-use Rattle.sat_lits.specs.Meaning.{Follows}
 use Rattle.sat_lits.specs.ClauseLaws.{clause_value-map}
 use Rattle.sat_lits.specs.ListLaws.{all_mono}
 use Rattle.sat_lits.specs.declared.literal.InLit.{InLit}
-use Rattle.sat_lits.specs.declared.shared.Shared.{Shared}
 use Rattle.std.proofs.lemmas.Bool.{true≢false}
 use Rattle.rebuild_stack.specs.Values.{own_value}
 use Rattle.clause_store.specs.Store.{Held}
 use Rattle.propagate.specs.Reasons.{lit_value, held_value}
-use Rattle.state_laws.specs.State.{problem_of}
 use Rattle.state_laws.specs.Conditions.{Satisfies, IsContradicted}
 use Rattle.state_laws.specs.Held.{own_or, own_of, own_clause}
 use Rattle.state_laws.specs.Kernel.{Kernel, state_of, Standing}
@@ -20,7 +17,8 @@ use Rattle.state_laws.specs.WidenLaws.{refuted_has_no_model}
 use Rattle.search.specs.Answers.{AreFailed}
 use Rattle.search.specs.Assumed.{assumption_at}
 use Rattle.var_maps.specs.Maps.{owner_at}
-use Rattle.one_solver.specs.Basic.{IsBasic}
+use Rattle.one_solver.specs.Parts.{Parts, problem_in}
+use Rattle.one_solver.specs.InStep.{EntriesFollow, entry_follows}
 use Rattle.one_solver.specs.Steps.{HasNoModel}
 
 -- the value of an inner number is that of its own variable
@@ -34,12 +32,9 @@ held_inner k w s =
     (λ h e. sym (clause_value-map (own_value w) (own_of k.maps) h.lits) ∙ e) k.store.held
     (both_lists k.maps (clause_value (own_value w)) k.store.held s.hard s.learned)
 
--- the items of a state that is not okay have no model
-pub no_model : (k : Kernel) → Standing k → IsBasic k → k.okay ≡ false → HasNoModel (problem_of (state_of k))
-no_model k s b e = refuted_has_no_model (state_of k) s.stands e none
-  where
-    none : (at : ℕ) (entry : Shared) → slice_get k.entries at ≡ Some entry → Follows (problem_of (state_of k)) entry.clause
-    none at entry f = absurd (let g : slice_get {X = Shared} [] at ≡ Some entry = ap (λ (z : List Shared). slice_get z at) (sym b.entries) ∙ f in cc)
+-- the items of a solver that is not okay have no model, where the entries that it took follow from them
+pub no_model : (s : Parts) → Standing s.kernel → EntriesFollow s → s.kernel.okay ≡ false → HasNoModel (problem_in s)
+no_model s st f e = refuted_has_no_model (state_of s.kernel) st.stands e (entry_follows s f)
 
 -- where no literal has failed, the clauses contradict each other
 pub failed_contradicted : (k : Kernel) (lits : List InLit) (positions : List ℕ) → positions ≡ [] → AreFailed k.store.held lits positions → IsContradicted (state_of k)

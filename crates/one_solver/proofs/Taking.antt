@@ -1,7 +1,7 @@
 -- What a state of this kind can take.
-use Rattle.std.proofs.Common.{◌≡◌, ℕ, zero, suc, ◌+◌, ◌-◌, ◌^◌, ◌<◌, ◌≤◌, ◌==◌, Bool, true, false, not, ◌&&◌, List, [], ◌∷◌, ◌++◌, Option, Some, None, refl, sym, ap, ap₂, subst, ◌∙◌, length, map, sum, get_or, take, drop, replicate, arith, take_all, append_assoc, append-nil}
+use Rattle.std.proofs.Common.{◌≡◌, ℕ, zero, suc, ◌+◌, ◌-◌, ◌^◌, ◌<◌, ◌≤◌, Bool, true, false, not, ◌&&◌, List, [], ◌∷◌, ◌++◌, Option, Some, None, refl, sym, ap, ap₂, subst, ◌∙◌, length, map, sum, get_or, take, drop, replicate, arith, take_all, append_assoc, append-nil}
 use Rattle.std.specs.List.{list_all}
-use Rattle.std.proofs.lemmas.Bool.{and_parts, and_from}
+use Rattle.std.proofs.lemmas.Bool.{and_parts}
 use Rattle.std.proofs.lemmas.List.{length-append, length-map, length-replicate, map-append, take-append-drop}
 use Rattle.std.proofs.lemmas.List.Folds.{list_all-append, list_all-map}
 use Rattle.std.proofs.lemmas.List.Sums.{sum_by-append, sum_by-cons}
@@ -11,11 +11,11 @@ use Rattle.sat_lits.specs.Conflicts.{cuts, own_count}
 use Rattle.sat_lits.specs.ListLaws.{all_same, all_at}
 use Rattle.sat_lits.specs.Meaning.{Problem}
 use Rattle.sat_lits.specs.Formulas.{Extends, names_known, no_problem}
-use Rattle.sat_lits.specs.FollowLaws.{Extends_itself}
 use Rattle.sat_lits.specs.declared.literal.Lit.{Lit}
 use Rattle.sat_lits.specs.declared.literal.Var.{Var}
 use Rattle.sat_lits.specs.declared.literal.OwnLit.{OwnLit}
 use Rattle.rebuild_stack.specs.Roots.{root, is_lost}
+use Rattle.rebuild_stack.specs.PutIn.{put_in}
 use Rattle.rebuild_stack.specs.declared.entry.Entry.{Entry}
 use Rattle.sat_lits.specs.declared.formula.Item.{Item}
 use Rattle.sat_lits.specs.declared.formula.Item.TheVariants.{Clause, Parity}
@@ -24,9 +24,13 @@ use Rattle.state_laws.specs.State.{State, outers_from, outer_count, to_own, prob
 use Rattle.state_laws.specs.Conditions.{Takable}
 use Rattle.state_laws.specs.ExtendLaws.{outers_from-append}
 use Rattle.state_laws.specs.Moves.{grown}
-use Rattle.state_laws.specs.Kernel.{Kernel, state_of, TookSame}
+use Rattle.state_laws.specs.Kernel.{Kernel, state_of, plain_kernel, TookSame}
 use Rattle.private_state.specs.Taking.{IsTakable, item_taken}
-use Rattle.parity_forms.specs.Parities.{parity_pieces, definitions_of}
+use Rattle.private_state.specs.MovingLaws.{plain_state}
+use Rattle.parity_forms.specs.Parities.{parity_pieces, parity_taken, definitions_of, clauses_of}
+use Rattle.sync_laws.specs.Met.{KeepsMet, IsMet, is_covered, bindings, gone_clauses}
+use Rattle.sync_laws.specs.CoversLaws.{own_more as same_own, taking-Covers}
+use Rattle.sync_laws.specs.KeepLaws.{keeps_trans, taken-KeepsMet}
 use Rattle.removed_vars.specs.CollectLaws.{taken_at}
 use Rattle.parity_forms.specs.ParityRootLaws.{few_cuts}
 use Rattle.parity_forms.specs.KernelParityLaws.{parity_definitions}
@@ -62,9 +66,36 @@ cuts-append a b = ap sum (map-append cuts a b) ∙ sum_by-append (λ n. n) (map 
 one_cut : (item : Item) → sum (map cuts (item ∷ [])) ≡ cuts item
 one_cut item = sum_by-cons (λ n. n) (cuts item) [] ∙ omega arith
 
+-- the number of outer variables is the same where private ones are made
+outer_same : (ds : List (Option Definition)) (es : List Definition) → outer_count (ds ++ map Some es) ≡ outer_count ds
+outer_same ds es = ap length (outers_from-append 0 ds (map Some es) ∙ (ap (λ z. outers_from 0 ds ++ z) (no_outers (0 + length ds) es) ∙ append-nil (outers_from 0 ds)))
+
+-- a parity that is taken keeps what is met
+parity_met : (vars : List Var) (rhs : Bool) (s : State) → KeepsMet s (parity_taken vars rhs s)
+parity_met vars rhs s = record { met = λ c m. record { there = there c m; covers = covers c m }; entries = refl; okay = λ o. o }
+  where
+    ds : List (Option Definition)
+    ds = map Some (definitions_of (parity_pieces s vars rhs))
+
+    cs : List (List OwnLit)
+    cs = clauses_of (parity_pieces s vars rhs)
+
+    there : (c : List Lit) → IsMet s c → names_known (outer_count (s.definitions ++ ds)) (Clause c) ≡ true
+    there c m = ap (λ (n : ℕ). names_known n (Clause c)) (outer_same s.definitions (definitions_of (parity_pieces s vars rhs))) ∙ m.there
+
+    covers : (c : List Lit) → IsMet s c → is_covered ((s.hard ++ cs) ++ gone_clauses s.stack) (put_in (λ l. root (bindings s.stack) (to_own (s.definitions ++ ds) l)) c) ≡ true
+    covers c m =
+        ap (is_covered ((s.hard ++ cs) ++ gone_clauses s.stack)) (same_own s.definitions ds c m.there (root (bindings s.stack)))
+        ∙ taking-Covers (Parity vars rhs) cs s c m.covers
+
+-- and so does an item
+taken_met : (k n : Kernel) (item : Item) → state_of n ≡ item_taken item (state_of k) → KeepsMet (state_of k) (state_of n)
+taken_met k n (Clause c) e = subst (KeepsMet (state_of k)) (sym e) (taken-KeepsMet c (state_of k))
+taken_met k n (Parity vars rhs) e = subst (KeepsMet (state_of k)) (sym e) (parity_met vars rhs (state_of k))
+
 -- an item more is taken
 pub one_taken : (k n : Kernel) (item : Item) → state_of n ≡ item_taken item (state_of k) → HasTaken k n (item ∷ [])
-one_taken k n (Clause c) e = record { items = ap (λ (z : State). z.items) e; outers = ap (λ (z : State). outers_from 0 z.definitions) e; stack = ap (λ (z : State). z.stack) e; okay = ap (λ (z : State). z.okay) e }
+one_taken k n (Clause c) e = record { items = ap (λ (z : State). z.items) e; outers = ap (λ (z : State). outers_from 0 z.definitions) e; stack = ap (λ (z : State). z.stack) e; okay = ap (λ (z : State). z.okay) e; met = taken_met k n (Clause c) e }
 one_taken k n (Parity vars rhs) e = record {
   items = ap (λ (z : State). z.items) e;
   outers =
@@ -73,6 +104,7 @@ one_taken k n (Parity vars rhs) e = record {
       ∙ (outers_from-append 0 k.definitions (map Some ds) ∙ (ap (λ z. outers_from 0 k.definitions ++ z) (no_outers (0 + length k.definitions) ds) ∙ append-nil (outers_from 0 k.definitions)));
   stack = ap (λ (z : State). z.stack) e;
   okay = ap (λ (z : State). z.okay) e;
+  met = taken_met k n (Parity vars rhs) e;
 }
 
 -- with no more own variables than it has cuts
@@ -84,17 +116,23 @@ own_more k n (Parity vars rhs) e =
     ap (λ (z : State). length z.definitions) e ∙ (length-append k.definitions (map Some ds) ∙ ap (λ (j : ℕ). length k.definitions + j) (length-map ds (λ (d : Definition). Some d))) in
     omega (arith, m, parity_definitions k vars rhs, few_cuts (state_of k) vars rhs)
 
+-- the same was taken where room alone is another
+pub taken_plain : (first k n : Kernel) (more : List Item) → plain_kernel n ≡ plain_kernel k → HasTaken first k more → HasTaken first n more
+taken_plain first k n more e h = record {
+  items = ap (λ (z : Kernel). z.items) e ∙ h.items;
+  outers = ap (λ (z : Kernel). outers_from 0 z.definitions) e ∙ h.outers;
+  stack = ap (λ (z : Kernel). z.stack) e ∙ h.stack;
+  okay = ap (λ (z : Kernel). z.okay) e ∙ h.okay;
+  met = subst (KeepsMet (state_of first)) (sym (plain_state k n e)) h.met;
+}
+
 -- the number of outer variables is the same
 pub same_count : (k n : Kernel) (more : List Item) → HasTaken k n more → outer_count n.definitions ≡ outer_count k.definitions
 same_count k n more h = ap length h.outers
 
 pub basic_taken : (k n : Kernel) (item : Item) → IsBasic k → state_of n ≡ item_taken item (state_of k) → IsBasic n
-basic_taken k n item b e = record { entries = entries item e ∙ b.entries; few = few }
+basic_taken k n item b e = record { few = few }
   where
-    entries : (i : Item) → state_of n ≡ item_taken i (state_of k) → n.entries ≡ k.entries
-    entries (Clause c) f = ap (λ (z : State). z.entries) f
-    entries (Parity vars rhs) f = ap (λ (z : State). z.entries) f
-
     few : length n.definitions ≤ own_count (problem_of (state_of n))
     few =
         let h : HasTaken k n (item ∷ []) = one_taken k n item e in
@@ -113,6 +151,7 @@ taken_next first k n items i item h l g e =
       outers = o.outers ∙ h.outers;
       stack = o.stack ∙ h.stack;
       okay = o.okay ∙ h.okay;
+      met = keeps_trans (state_of first) (state_of k) (state_of n) h.met o.met;
     }
 
 -- the cuts of the first items and of the next one are some of the cuts of all
@@ -149,7 +188,6 @@ grown_outers k g more e =
 
 pub grown_basic : (k g : Kernel) (more : ℕ) → IsBasic k → state_of g ≡ grown more (state_of k) → IsBasic g
 grown_basic k g more b e = record {
-  entries = ap (λ (z : State). z.entries) e ∙ b.entries;
   few =
       let n : length g.definitions ≡ length k.definitions + more =
       ap (λ (z : State). length z.definitions) e ∙ (length-append k.definitions (replicate more None) ∙ ap (λ (j : ℕ). length k.definitions + j) (length-replicate more None)) in
@@ -200,7 +238,6 @@ nothing_front taken f e = subst (λ (x : Problem). Extends x f) (sym e) (record 
 pub basic_same : (k n : Kernel) → IsBasic k → TookSame k n → IsBasic n
 basic_same k n b s =
     record {
-      entries = s.entries ∙ b.entries;
       few = subst (λ (ds : List (Option Definition)). length ds ≤ own_count (record { vars = outer_count ds; items = n.items })) (sym s.definitions)
           (subst (λ (is : List Item). length k.definitions ≤ own_count (record { vars = outer_count k.definitions; items = is })) (sym s.items) b.few);
     }

@@ -2,6 +2,7 @@ pub mod Basic
 pub mod Roots
 pub mod Settled
 pub mod Parts
+pub mod InStep
 pub mod Assuming
 pub mod Units
 pub mod Taken

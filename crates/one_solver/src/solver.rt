@@ -1,31 +1,39 @@
-ghost use Rattle.std.specs.Prelude.{◌≡◌, ◌≢◌, ◌-◌, ◌<◌, ◌≤◌, ◌^◌, [], false, true, length, map, nat_lt, slice_index, option_map, IfOk, IfSome, OnOk, IsTrue};
+ghost use Rattle.std.specs.Prelude.{◌≡◌, ◌≢◌, ◌+◌, ◌-◌, ◌<◌, ◌≤◌, ◌^◌, List, [], false, true, length, map, nat_lt, slice_index, option_map, IfOk, IfSome, OnOk, OnErr, IsTrue};
 ghost use Rattle.std.specs.List.{list_all};
 ghost use Rattle.std.specs.List.Sorted.{IsStrictlyIncreasing};
 ghost use Rattle.sat_lits.specs.Formulas.{Extends, no_problem, names_known};
+ghost use Rattle.sat_lits.specs.Logs.{IsLegalLog};
 ghost use Rattle.sat_lits.specs.declared.formula.Item.TheVariants.{Clause};
+ghost use Rattle.sat_lits.specs.declared.shared.Shared.{Shared};
 ghost use Rattle.sat_lits.specs.declared.verdict.Verdict.TheVariants.{Unsat};
 ghost use Rattle.state_laws.specs.Conditions.{IsContradicted};
 ghost use Rattle.state_laws.specs.Kernel.{state_of, Standing};
+ghost use Rattle.sync_laws.specs.Steps.{IsTurn};
+ghost use Rattle.data_sync.specs.Taking.{others};
 ghost use Rattle.search.specs.Answers.{IsInnerModel, AreFailed};
 ghost use Rattle.analyze.specs.Counting.{saturated};
 ghost use Rattle.one_solver.specs.Roots.{is_free};
-ghost use Rattle.one_solver.specs.Settled.{IsDone, OnlyPushed};
+ghost use Rattle.one_solver.specs.Settled.{IsDone};
 ghost use Rattle.one_solver.specs.Learned.{HasFewLong};
-ghost use Rattle.one_solver.specs.Parts.{problem_in, SameCall, AssumesKnown};
+ghost use Rattle.one_solver.specs.Parts.{problem_in, SameCall, NoExchange, AssumesKnown, CanAssume};
+ghost use Rattle.one_solver.specs.InStep.{IsInStep, IsSettled, EntriesFollow, GoesOn};
 ghost use Rattle.one_solver.specs.Assuming.{IsMappedTo, AreContradicted};
 ghost use Rattle.one_solver.specs.Units.{FixesUnits, HasNoUnits};
 ghost use Rattle.one_solver.specs.Steps.{IsUnderWay, StepsRight, IsTidy, IsRefuted, HasNoModel, IsVerdictOrNone, IsOverOrNone};
 
 use crate::answer::StepAnswer;
+use crate::free::free_lits;
 use crate::settle::settle;
 use crate::take::take_formula;
 use crate::tidy::tidy;
 use analyze::Tally;
 use assume_map::{Mapped, failed_lits, map_assumptions};
+use data_sync::SyncBook;
 use private_state::PrivateState;
 use sat_lits::{Formula, InLit, List, Lit, NoMemory, Verdict};
 use sat_ports::Alarm;
 use search::{IntervalAnswer, Search};
+use share_store::Store;
 use std::alloc::Global;
 use std::marker::Model;
 
@@ -38,13 +46,16 @@ const KEPT_MORE: u64 = 100;
 /// One solver with a state of its own.
 ///
 /// It takes clauses and parities. A parity over more than four variables is cut into pieces of
-/// four, each cut with a private variable of its own. After want of memory from any call it still
-/// stands for the items that it took.
+/// four, each cut with a private variable of its own. It exchanges clauses with other solvers by a
+/// log of shared ones. After want of memory from any call it still stands for the items and the
+/// shared clauses that it took.
 #[derive(Debug, Drop)]
 pub struct OneSolver {
     alloc: Global,
     number: u32,
     state: PrivateState,
+    book: SyncBook,
+    took: u64,
     search: Search,
     tally: Tally,
     interval: u64,
@@ -65,18 +76,23 @@ impl Model for OneSolver {
 
 impl OneSolver {
     /// A solver that took nothing. The first phase of each variable is false where the number is
-    /// even and true where it is odd. It takes no memory.
+    /// even and true where it is odd. It is in step with every log. It takes no memory.
     pub fn new(alloc: Global, number: u32) -> OneSolver
         ensures number { result.number ≡ number }
         ensures problem { problem_in result ≡ no_problem }
         ensures okay { result.kernel.okay ≡ true }
         ensures conflicts { result.conflicts ≡ 0 }
         ensures interval { result.interval ≡ 0 }
+        ensures took { result.took ≡ 0 }
+        ensures entries { result.kernel.entries ≡ [] }
+        ensures in_step { (log : List Shared) → IsInStep result log }
     {
         OneSolver {
             alloc,
             number,
             state: PrivateState::new(alloc),
+            book: SyncBook::new(alloc),
+            took: 0,
             search: Search::new(alloc, number % 2 == 1),
             tally: Tally::new(),
             interval: 0,
@@ -95,6 +111,7 @@ impl OneSolver {
         ensures longer { Extends (problem_in self.old) (problem_in self.new) }
         ensures same { SameCall self.old self.new }
         ensures okay { self.new.kernel.okay ≡ self.old.kernel.okay }
+        ensures exchange { NoExchange self.old self.new }
     {
         take_formula(self.alloc, &mut self.state, formula)
     }
@@ -120,6 +137,7 @@ impl OneSolver {
         ensures problem { problem_in self.new ≡ problem_in self.old }
         ensures number { self.new.number ≡ self.old.number }
         ensures refuted { self.old.kernel.okay ≡ false → self.new.kernel.okay ≡ false }
+        ensures exchange { NoExchange self.old self.new }
     {
         self.tally = Tally::new();
         self.interval = 0;
@@ -131,7 +149,8 @@ impl OneSolver {
     }
 
     /// Runs one interval of the call that `begin_call` started, where each earlier step of it
-    /// answered `IntervalOver` and its conflicts are at most the limit.
+    /// answered `IntervalOver` and its conflicts are at most the limit. Each shared clause that the
+    /// solver took follows from the items taken, as it does where the log was legal for them.
     ///
     /// A verdict is right for the items taken and the assumptions of the call: `Unsat` comes with
     /// assumptions that alone contradict the items, at rising positions, and no literal twice. Where
@@ -145,15 +164,18 @@ impl OneSolver {
     /// in this call.
     ///
     /// The conflicts of the call never exceed the limit, and after any answer but `IntervalOver` the
-    /// same interval comes next. The assumptions are mapped before each interval, since the literals
-    /// that were fixed after the last one may change what they come to.
+    /// same interval comes next. Before each interval the variables of the assumptions are brought
+    /// back and the assumptions are mapped, since the literals that were fixed after the last one, and
+    /// the shared clauses that were taken, may change what they come to.
     pub fn step<S: Alarm>(&mut self, limit: Option<u64>, stop: &mut S) -> StepAnswer
         requires under_way { IsUnderWay self.old }
         requires within { IfSome limit (λ most. self.old.conflicts ≤ most) }
+        requires entries { EntriesFollow self.old }
         ensures right { StepsRight self.old self.new limit (S.raises stop.old) (S.raises stop.new) result }
         ensures refuted { IsRefuted self.old result }
         ensures problem { problem_in self.new ≡ problem_in self.old }
         ensures number { self.new.number ≡ self.old.number }
+        ensures exchange { NoExchange self.old self.new }
         ensures interval { result ≢ StepAnswer.IntervalOver → self.new.interval ≡ self.old.interval }
         ensures assumptions { self.new.assumptions ≡ self.old.assumptions }
         ensures more { self.old.conflicts ≤ self.new.conflicts }
@@ -164,6 +186,46 @@ impl OneSolver {
         if !self.state.okay() {
             return StepAnswer::Verdict(Verdict::Unsat(List::new(self.alloc)));
         }
+        match self.free_assumptions() {
+            Ok(()) => self.search_mapped(limit, stop),
+            Err(NoMemory) => StepAnswer::Memory,
+        }
+    }
+
+    /// Brings the eliminated variables to which the assumptions come back. After want of memory some
+    /// may be back.
+    fn free_assumptions(&mut self) -> Result<(), NoMemory>
+        requires { AssumesKnown self.old }
+        ensures free { OnOk result (CanAssume self.new) }
+        ensures okay { self.new.kernel.okay ≡ self.old.kernel.okay }
+        ensures entries { self.new.kernel.entries ≡ self.old.kernel.entries }
+        ensures same { self.new ≡ record self.old { kernel = self.new.kernel } }
+        ensures problem { problem_in self.new ≡ problem_in self.old }
+    {
+        free_lits(self.alloc, &mut self.state, self.assumptions.as_slice())
+    }
+
+    /// Maps the assumptions, none of which comes to an eliminated variable, and runs the interval
+    /// under the literals that they come to.
+    fn search_mapped<S: Alarm>(&mut self, limit: Option<u64>, stop: &mut S) -> StepAnswer
+        requires okay { IsTrue self.old.kernel.okay }
+        requires assumed { CanAssume self.old }
+        requires under_way { IsUnderWay self.old }
+        requires within { IfSome limit (λ most. self.old.conflicts ≤ most) }
+        requires entries { EntriesFollow self.old }
+        ensures right { StepsRight self.old self.new limit (S.raises stop.old) (S.raises stop.new) result }
+        ensures problem { problem_in self.new ≡ problem_in self.old }
+        ensures number { self.new.number ≡ self.old.number }
+        ensures exchange { NoExchange self.old self.new }
+        ensures interval { result ≢ StepAnswer.IntervalOver → self.new.interval ≡ self.old.interval }
+        ensures assumptions { self.new.assumptions ≡ self.old.assumptions }
+        ensures more { self.old.conflicts ≤ self.new.conflicts }
+        ensures within { IfSome limit (λ most. self.new.conflicts ≤ most) }
+        ensures stop { S.kept stop.old stop.new }
+        ensures later { S.raises stop.old ≤ S.raises stop.new }
+    {
+        // That the state stands is known from here on.
+        let _okay = self.state.okay();
         match map_assumptions(self.alloc, &self.state, self.assumptions.as_slice()) {
             Ok(Mapped::Ready { lits, positions }) => {
                 self.search_under(lits.as_slice(), positions.as_slice(), limit, stop)
@@ -183,12 +245,15 @@ impl OneSolver {
     ) -> StepAnswer
         requires okay { IsTrue self.old.kernel.okay }
         requires standing { Standing self.old.kernel }
+        requires assumed { CanAssume self.old }
         requires ready { IsMappedTo self.old lits.now positions.now }
         requires under_way { IsUnderWay self.old }
         requires within { IfSome limit (λ most. self.old.conflicts ≤ most) }
+        requires entries { EntriesFollow self.old }
         ensures right { StepsRight self.old self.new limit (S.raises stop.old) (S.raises stop.new) result }
         ensures problem { problem_in self.new ≡ problem_in self.old }
         ensures number { self.new.number ≡ self.old.number }
+        ensures exchange { NoExchange self.old self.new }
         ensures interval { result ≢ StepAnswer.IntervalOver → self.new.interval ≡ self.old.interval }
         ensures assumptions { self.new.assumptions ≡ self.old.assumptions }
         ensures more { self.old.conflicts ≤ self.new.conflicts }
@@ -217,11 +282,51 @@ impl OneSolver {
         }
     }
 
+    /// Takes every entry of the log from the cursor on, those that the solver added in its last call
+    /// among them, and the waiting ones that no longer name an eliminated variable. Then it offers its
+    /// fixed literals and its learned clauses of two literals. The answer is the number of entries
+    /// added. The store's log is legal for the items taken, and the solver is in step with it. A call
+    /// that is under way goes on. The only error is want of memory: then the log is legal still and
+    /// begins with what it had.
+    pub fn catch_up(&mut self, store: &mut Store) -> Result<u64, NoMemory>
+        requires legal { IsLegalLog (problem_in self.old) store.old }
+        requires in_step { IsInStep self.old store.old }
+        ensures turn { IsTurn (problem_in self.old) self.old.number self.old.kernel.entries store.old self.new.kernel.entries store.new }
+        ensures legal { IsLegalLog (problem_in self.new) store.new }
+        ensures grows { GoesOn self.old.number store.old store.new }
+        ensures in_step { IsInStep self.new store.new }
+        ensures settled { OnOk result (IsSettled self.new store.new) }
+        ensures added { IfOk result (λ added. length store.new ≡ length store.old + added) }
+        ensures took { OnOk result (self.new.took ≡ others self.old.number (state_of self.old.kernel) (state_of self.new.kernel)) }
+        ensures err { OnErr result (self.new.took ≡ self.old.took) }
+        ensures problem { problem_in self.new ≡ problem_in self.old }
+        ensures same { SameCall self.old self.new }
+    {
+        let report = self.book.sync(&mut self.state, store, self.number)?;
+        self.took = report.took;
+        Ok(report.gave)
+    }
+
+    /// How many entries of other solvers were taken by the last `catch_up` that was answered `Ok`, 0
+    /// before it.
+    pub fn took(&self) -> u64
+        ensures { result ≡ self.now.took }
+    {
+        self.took
+    }
+
     /// The number of the solver.
     pub fn number(&self) -> u32
         ensures { result ≡ self.now.number }
     {
         self.number
+    }
+
+    /// The number of variables taken.
+    pub fn vars(&self) -> u32
+        ensures { result ≡ (problem_in self.now).vars }
+    {
+        self.state.maps().outer_count()
     }
 
     /// The number of items taken.
@@ -242,14 +347,16 @@ impl OneSolver {
     pub fn pour(&mut self, into: &mut Tally)
         ensures sum { into.new ≡ saturated into.old self.old.conflicts }
         ensures emptied { self.new ≡ record self.old { conflicts = 0 } }
+        ensures in_step { (log : List Shared) → IsInStep self.old log → IsInStep self.new log }
     {
         into.pour(&mut self.tally);
     }
 
-    /// False only where the items taken have no model.
+    /// False only where the items taken have no model, if the shared clauses that were taken follow
+    /// from them.
     pub fn okay(&self) -> bool
         ensures value { result ≡ self.now.kernel.okay }
-        ensures right { result ≡ false → HasNoModel (problem_in self.now) }
+        ensures right { result ≡ false → EntriesFollow self.now → HasNoModel (problem_in self.now) }
     {
         self.state.okay()
     }
@@ -258,7 +365,7 @@ impl OneSolver {
     /// the literals that the assumptions were mapped to.
     fn sat(&self, lits: &[InLit], positions: &[u32], values: &[bool]) -> StepAnswer
         requires okay { IsTrue self.now.kernel.okay }
-        requires assumed { AssumesKnown self.now }
+        requires assumed { CanAssume self.now }
         requires ready { IsMappedTo self.now lits.now positions.now }
         requires model { IsInnerModel self.now.kernel lits.now values.now }
         ensures { IsVerdictOrNone (problem_in self.now) self.now.assumptions result }
@@ -274,12 +381,14 @@ impl OneSolver {
     /// Answers that there is no model under the assumptions, by failed ones of the literals that
     /// they were mapped to. Where none is needed the state is refuted.
     fn unsat_under(&mut self, lits: &[InLit], positions: &[u32], failed: &[u32]) -> StepAnswer
-        requires assumed { AssumesKnown self.old }
+        requires assumed { CanAssume self.old }
+        requires entries { EntriesFollow self.old }
         requires ready { IsMappedTo self.old lits.now positions.now }
         requires failed { AreFailed self.old.kernel.store.held lits.now failed.now }
         ensures answer { IsVerdictOrNone (problem_in self.old) self.old.assumptions result }
         ensures same { self.new ≡ record self.old { kernel = self.new.kernel } }
         ensures problem { problem_in self.new ≡ problem_in self.old }
+        ensures taken { self.new.kernel.entries ≡ self.old.kernel.entries }
     {
         if failed.is_empty() {
             return self.unsat();
@@ -307,11 +416,13 @@ impl OneSolver {
 
     /// Answers that there is no model, where the clauses have no solution.
     fn unsat(&mut self) -> StepAnswer
-        requires { IsContradicted (state_of self.old.kernel) }
+        requires contradicted { IsContradicted (state_of self.old.kernel) }
+        requires entries { EntriesFollow self.old }
         ensures answer { result ≡ StepAnswer.Verdict (Unsat []) }
         ensures right { HasNoModel (problem_in self.old) }
         ensures same { self.new ≡ record self.old { kernel = self.new.kernel } }
         ensures problem { problem_in self.new ≡ problem_in self.old }
+        ensures taken { self.new.kernel.entries ≡ self.old.kernel.entries }
     {
         self.state.refute();
         StepAnswer::Verdict(Verdict::Unsat(List::new(self.alloc)))
@@ -322,7 +433,7 @@ impl OneSolver {
         requires { self.old.interval < 2 ^ 20 }
         ensures answer { IsOverOrNone result }
         ensures over { result ≡ StepAnswer.IntervalOver → IsTidy self.old.interval self.new }
-        ensures pushed { OnlyPushed self.old.kernel self.new.kernel }
+        ensures exchange { NoExchange self.old self.new }
         ensures interval { result ≢ StepAnswer.IntervalOver → self.new.interval ≡ self.old.interval }
         ensures conflicts { self.new.conflicts ≡ self.old.conflicts }
         ensures assumptions { self.new.assumptions ≡ self.old.assumptions }
@@ -343,7 +454,7 @@ impl OneSolver {
     fn tidy(&mut self, keep: usize) -> Result<(), NoMemory>
         ensures units { OnOk result (IsTrue self.new.kernel.okay → HasNoUnits self.new.kernel) }
         ensures few { OnOk result (HasFewLong keep self.new.kernel) }
-        ensures pushed { OnlyPushed self.old.kernel self.new.kernel }
+        ensures taken { self.new.kernel.entries ≡ self.old.kernel.entries }
         ensures same { self.new ≡ record self.old { kernel = self.new.kernel } }
         ensures problem { problem_in self.new ≡ problem_in self.old }
     {

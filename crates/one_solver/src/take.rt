@@ -27,6 +27,7 @@ pub fn take_formula(
     ensures front { Extends (problem_of (state_of state.new)) formula.now.problem }
     ensures longer { Extends (problem_of (state_of state.old)) (problem_of (state_of state.new)) }
     ensures okay { state.new.okay ≡ state.old.okay }
+    ensures entries { state.new.entries ≡ state.old.entries }
 {
     state.grow(formula.vars())?;
     let taken = state.taken();

@@ -1,6 +1,7 @@
 ghost use Rattle.std.specs.Prelude.{◌≡◌, IfOk};
 ghost use Rattle.sat_lits.specs.Formulas.{names_known};
 ghost use Rattle.sat_lits.specs.declared.formula.Item.TheVariants.{Clause};
+ghost use Rattle.one_solver.specs.InStep.{EntriesFollow};
 ghost use Rattle.one_solver.specs.Steps.{IsUnderWay};
 
 use crate::{OneSolver, StepAnswer};
@@ -49,6 +50,7 @@ fn parities_of(alloc: Global, vars: u32, parities: &[&[u32]]) -> Result<Formula,
 /// A solver that took a formula and began a call.
 fn start(rt: &impl Abort, alloc: Global, formula: &Formula) -> Result<OneSolver, NoMemory>
     ensures under_way { IfOk result (λ solver. IsUnderWay solver) }
+    ensures follow { IfOk result (λ solver. EntriesFollow solver) }
     ensures conflicts { IfOk result (λ solver. solver.conflicts ≡ 0) }
 {
     start_under(rt, alloc, formula, &[])
@@ -68,6 +70,7 @@ fn start_under(
     assumptions: &[Lit],
 ) -> Result<OneSolver, NoMemory>
     ensures under_way { IfOk result (λ solver. IsUnderWay solver) }
+    ensures follow { IfOk result (λ solver. EntriesFollow solver) }
     ensures conflicts { IfOk result (λ solver. solver.conflicts ≡ 0) }
 {
     assert!(rt; are_known(formula.vars(), assumptions));
@@ -125,7 +128,8 @@ fn ring(alloc: Global, vars: u32) -> Result<Formula, Fail> {
 
 /// One interval of a call that is under way, without a limit.
 fn step(solver: &mut OneSolver) -> StepAnswer
-    requires { IsUnderWay solver.old }
+    requires under_way { IsUnderWay solver.old }
+    requires follow { EntriesFollow solver.old }
 {
     solver.step(None, &mut Silent::new())
 }
@@ -133,15 +137,19 @@ fn step(solver: &mut OneSolver) -> StepAnswer
 /// One interval of a call that made no conflict and may make none.
 fn spent_step(solver: &mut OneSolver) -> StepAnswer
     requires under_way { IsUnderWay solver.old }
+    requires follow { EntriesFollow solver.old }
     requires none { solver.old.conflicts ≡ 0 }
 {
     solver.step(Some(0), &mut Silent::new())
 }
 
 /// An interval that makes its full number of conflicts.
+#[tactic(auto, using(crate::specs::InStep::follow_same))]
 fn whole_interval(rt: &impl Abort, solver: &mut OneSolver)
-    requires { IsUnderWay solver.old }
-    ensures { IsUnderWay solver.new }
+    requires under_way { IsUnderWay solver.old }
+    requires follow { EntriesFollow solver.old }
+    ensures under_way { IsUnderWay solver.new }
+    ensures follow { EntriesFollow solver.new }
 {
     match solver.step(None, &mut Silent::new()) {
         StepAnswer::IntervalOver => {}

@@ -17,9 +17,10 @@ state_of s = record {
   okay = s.okay;
 }
 
--- what is left to be read is right, the solver took a front of the formula, its conflicts were counted, and where it is not okay the items contradict each other
+-- what is left to be read is right, the solver took a front of the formula and no shared clause, its conflicts were counted, and where it is not okay the items contradict each other
 pub record IsKept (s : Inside) : Type 0 where
   pub backed : IsBacked (state_of s)
   pub front : Extends (problem_in s.solver) s.formula.problem
+  pub entries : s.solver.kernel.entries ≡ []
   pub poured : s.solver.conflicts ≡ 0
   pub refuted : s.okay ≡ false → Follows s.formula.problem []

@@ -1,4 +1,4 @@
-ghost use Rattle.std.specs.Prelude.{◌≡◌, ◌<◌, ◌≤◌, ◌^◌, length, IfOk, IfSome, IsTrue};
+ghost use Rattle.std.specs.Prelude.{◌≡◌, ◌<◌, ◌≤◌, ◌^◌, [], length, IfOk, IfSome, IsTrue};
 ghost use Rattle.sat_lits.specs.Formulas.{Extends, names_known};
 ghost use Rattle.sat_lits.specs.declared.formula.Item.TheVariants.{Clause};
 ghost use Rattle.one_solver.specs.Parts.{problem_in};
@@ -20,7 +20,8 @@ pub enum Finding {
 /// Brings a solver up to a formula that begins with what it took, and lets it search interval by
 /// interval under assumptions, whose variables are there, until it has a verdict or made as many
 /// conflicts as the limit allows. It never makes more, also where it errs, and the only error is
-/// want of memory. The solver made no conflict that was not counted elsewhere.
+/// want of memory. The solver made no conflict that was not counted elsewhere, and took no shared
+/// clause.
 pub fn decide(
     solver: &mut OneSolver,
     formula: &Formula,
@@ -29,11 +30,13 @@ pub fn decide(
 ) -> Result<Finding, NoMemory>
     requires front { Extends (problem_in solver.old) formula.now.problem }
     requires unused { solver.old.conflicts ≡ 0 }
+    requires entries { solver.old.kernel.entries ≡ [] }
     requires few { length assumptions.now < 2 ^ 32 }
     requires known { IsTrue (names_known formula.now.problem.vars (Clause assumptions.now)) }
     ensures found { IfOk result (IsFound formula.now.problem assumptions.now limit solver.new.conflicts) }
     ensures within { IfSome limit (λ most. solver.new.conflicts ≤ most) }
     ensures front { Extends (problem_in solver.new) formula.now.problem }
+    ensures entries { solver.new.kernel.entries ≡ [] }
 {
     solver.absorb(formula)?;
     solver.begin_call(assumptions)?;

@@ -1,4 +1,4 @@
-use Rattle.std.proofs.Common.{◌≡◌, ◌≤◌, ◌-◌, ◌^◌, IfSome}
+use Rattle.std.proofs.Common.{◌≡◌, ◌≤◌, ◌-◌, ◌^◌, [], IfSome}
 use Rattle.one_solver.specs.Parts.{problem_in}
 use Rattle.one_solver.specs.Steps.{IsUnderWay}
 use Rattle.sat_api.proofs.decide.decide.Given as goal
@@ -9,6 +9,7 @@ invariant-intervals l = record {
   within : IfSome l.limit (λ m. l.solver.conflicts ≤ m);
   problem : problem_in l.solver ≡ l.formula.problem;
   assumptions : l.solver.assumptions ≡ l.assumptions;
+  entries : l.solver.kernel.entries ≡ [];
 }
 
 abbrev pub decreases-intervals : goal.decreases-intervals

@@ -3,7 +3,6 @@ use Rattle.sat_lits.specs.Meaning.{IsModel}
 use Rattle.var_maps.specs.Maps.{Maps, Matched}
 use Rattle.state_laws.specs.Kernel.{Standing}
 use Rattle.private_state.specs.Rebuilt.{rebuilt_values}
-use Rattle.one_solver.specs.Basic.{IsBasic}
 use Rattle.one_solver.specs.Parts.{Parts, problem_in}
 use Rattle.one_solver.proofs.Assumptions.{rebuilt_true}
 use Rattle.one_solver.proofs.solver.OneSolver.sat.Goals as goal
@@ -15,6 +14,6 @@ returns-in-Ok c =
       rebuilt_true c.args.self.now c.args.lits.now c.args.positions.now c.requires.ready c.args.values.now c.in-Ok.model
           (subst (λ (s : Parts). Standing s.kernel) c.self.view_is c.maps.ensures.standing)
           (subst (λ (s : Parts). Matched s.kernel.maps) c.self.view_is matched)
-          (subst (λ (s : Parts). IsBasic s.kernel) c.self.view_is c.self.invariant) c.requires.assumed c.requires.model
+          c.requires.assumed c.requires.model
           (subst (λ (s : Parts). c.in-Ok.model ≡ rebuilt_values s.kernel c.args.values.now) c.self.view_is c.in-Ok.ensures.rebuilt),
     )

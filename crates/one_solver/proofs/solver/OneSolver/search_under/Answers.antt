@@ -6,13 +6,13 @@ use Rattle.state_laws.specs.State.{problem_of}
 use Rattle.state_laws.specs.Kernel.{Kernel, state_of, Standing}
 use Rattle.search.specs.Answers.{IsBelow}
 use Rattle.one_solver.specs.Assuming.{IsMappedTo}
+use Rattle.one_solver.specs.InStep.{EntriesFollow, follow_same}
 use Rattle.one_solver.specs.Kept.{parts_of}
-use Rattle.one_solver.specs.Parts.{Parts, problem_in, AssumesKnown}
+use Rattle.one_solver.specs.Parts.{Parts, problem_in, CanAssume}
 use Rattle.one_solver.specs.Roots.{is_free}
 use Rattle.one_solver.specs.Steps.{IsUnderWay, StepsRight, SpendsLimit}
 use Rattle.one_solver.proofs.Assumptions.{lits_few, lits_active, still_mapped}
 use Rattle.one_solver.proofs.Counting.{own_few, spends, ends, over_right, still_known}
-use Rattle.one_solver.proofs.Freeing.{free_along}
 use Rattle.one_solver.proofs.solver.OneSolver.search_under.Goals as goal
 use Rattle.one_solver.proofs.solver.OneSolver.search_under.Goals.{After-left_of-left}
 use Rattle.one_solver.proofs.solver.OneSolver.search_under.Given.{Over}
@@ -32,8 +32,15 @@ under_way g c = subst (λ (s : Parts). IsUnderWay s) (sym c.self.view_is) c.requ
 searched_free : (k n : Kernel) (lits : List Lit) → n ≡ record k { store = n.store } → list_all (is_free k) lits ≡ true → list_all (is_free n) lits ≡ true
 searched_free k n lits e f = ap (λ (z : Kernel). list_all (is_free z) lits) e ∙ f
 
-searched_known : (old new : Parts) → new.kernel ≡ record old.kernel { store = new.kernel.store } → new.assumptions ≡ old.assumptions → AssumesKnown old → AssumesKnown new
-searched_known old new e f a = still_known old new (ap (λ (k : Kernel). problem_of (state_of k)) e) f (searched_free old.kernel new.kernel old.assumptions e a.free) a
+searched_can : (old new : Parts) → new.kernel ≡ record old.kernel { store = new.kernel.store } → new.assumptions ≡ old.assumptions → CanAssume old → CanAssume new
+searched_can old new e f a =
+    record {
+      assumed = still_known old new (ap (λ (k : Kernel). problem_of (state_of k)) e) f a.assumed;
+      free = ap (list_all (is_free new.kernel)) f ∙ searched_free old.kernel new.kernel old.assumptions e a.free;
+    }
+
+can_assume : (g : Over) (c : After-left_of-left g) → CanAssume (parts_of c.self.inside)
+can_assume g c = subst (λ (s : Parts). CanAssume s) (sym c.self.view_is) c.requires.assumed
 
 -- there are few own variables
 few : (g : Over) (c : After-left_of-left g) → length c.self.inside.state.maps.inners ≤ own_count (problem_in (parts_of c.self.inside))
@@ -48,8 +55,7 @@ returns-in-IntervalOver-clause-right g c =
     (over_right old c.end_interval.new.self c.args.limit (g.S.Alarm.raises c.args.stop.now) (g.S.Alarm.raises c.run_interval-answer.new.stop) c.end_interval.result c.end_interval.ensures.answer
     (λ e. ends old c.end_interval.new.self c.args.limit made (length old.kernel.maps.inners) (under_way g d) (within g d) c.in-IntervalOver.ensures.ends.0
     (subst (λ (o : Option ℕ). IsBelow made o) (left g d) c.in-IntervalOver.ensures.ends.1) c.in-IntervalOver.ensures.own (few g d) (c.end_interval.ensures.conflicts ∙ c.in-IntervalOver.ensures.tallied) (c.end_interval.ensures.over e)
-    (c.end_interval.ensures.problem ∙ ap (λ (k : Kernel). problem_of (state_of k)) c.in-IntervalOver.ensures.learned.same) c.end_interval.ensures.assumptions
-    (free_along c.run_interval-answer.new.state c.end_interval.new.self.kernel old.assumptions c.end_interval.ensures.pushed (searched_free old.kernel c.run_interval-answer.new.state old.assumptions c.in-IntervalOver.ensures.learned.same (under_way g d).assumed.free))))
+    (c.end_interval.ensures.problem ∙ ap (λ (k : Kernel). problem_of (state_of k)) c.in-IntervalOver.ensures.learned.same) c.end_interval.ensures.assumptions))
 
 pub returns-in-Spent-clause-right : goal.returns-in-Spent-clause-right
 returns-in-Spent-clause-right g c =
@@ -65,7 +71,7 @@ ready : (g : Over) (c : After-left_of-left g) → IsMappedTo (parts_of c.self.in
 ready g c = subst (λ (s : Parts). IsMappedTo s c.args.lits.now c.args.positions.now) (sym c.self.view_is) c.requires.ready
 
 pub run_interval-answer-requires-clause-few : goal.run_interval-answer-requires-clause-few
-run_interval-answer-requires-clause-few g c = lits_few c.args.self.now c.args.lits.now c.args.positions.now c.requires.ready c.requires.under_way.assumed
+run_interval-answer-requires-clause-few g c = lits_few c.args.self.now c.args.lits.now c.args.positions.now c.requires.ready c.requires.assumed.assumed
 
 pub run_interval-answer-requires-clause-active : goal.run_interval-answer-requires-clause-active
 run_interval-answer-requires-clause-active g c = lits_active c.self.inside.state.maps c.args.lits.now (let r : IsMappedTo (parts_of c.self.inside) c.args.lits.now c.args.positions.now = subst (λ (s : Parts). IsMappedTo s c.args.lits.now c.args.positions.now) (sym c.self.view_is) c.requires.ready in r.kept.owned)
@@ -83,9 +89,14 @@ unsat_under-requires-clause-ready g c =
 pub sat-requires-clause-assumed : goal.sat-requires-clause-assumed
 sat-requires-clause-assumed g c =
     let d : After-left_of-left g = (goal.at.sat-requires-clause-assumed g c).After-left_of-left in
-    searched_known (parts_of c.self.inside) (record (parts_of c.self.inside) { kernel = c.run_interval-answer.new.state; conflicts = c.run_interval-answer.new.tally }) c.in-Model.ensures.learned.same refl (under_way g d).assumed
+    searched_can (parts_of c.self.inside) (record (parts_of c.self.inside) { kernel = c.run_interval-answer.new.state; conflicts = c.run_interval-answer.new.tally }) c.in-Model.ensures.learned.same refl (can_assume g d)
 
 pub unsat_under-requires-clause-assumed : goal.unsat_under-requires-clause-assumed
 unsat_under-requires-clause-assumed g c =
     let d : After-left_of-left g = (goal.at.unsat_under-requires-clause-assumed g c).After-left_of-left in
-    searched_known (parts_of c.self.inside) (record (parts_of c.self.inside) { kernel = c.run_interval-answer.new.state; conflicts = c.run_interval-answer.new.tally }) c.in-Failed.ensures.learned.same refl (under_way g d).assumed
+    searched_can (parts_of c.self.inside) (record (parts_of c.self.inside) { kernel = c.run_interval-answer.new.state; conflicts = c.run_interval-answer.new.tally }) c.in-Failed.ensures.learned.same refl (can_assume g d)
+
+pub unsat_under-requires-clause-entries : goal.unsat_under-requires-clause-entries
+unsat_under-requires-clause-entries g c =
+    follow_same (parts_of c.self.inside) (record (parts_of c.self.inside) { kernel = c.run_interval-answer.new.state; conflicts = c.run_interval-answer.new.tally })
+    (ap (λ (k : Kernel). problem_of (state_of k)) c.in-Failed.ensures.learned.same) (ap (λ (k : Kernel). k.entries) c.in-Failed.ensures.learned.same) (subst EntriesFollow (sym c.self.view_is) c.requires.entries)

@@ -25,6 +25,7 @@ invariant_of-self-in-Verdict-Unsat c =
             subst (λ (ls : List Lit). Follows f ls) (sym c.negate.ensures ∙ same) (negated_follow f c.args.assumptions.now c.in-Verdict-Unsat.failed failed);
       };
       front = subst (λ (s : Parts). Extends (problem_in s) f) (sym c.pour.ensures.emptied) c.decide-found.ensures.front;
+      entries = ap (λ (s : Parts). s.kernel.entries) c.pour.ensures.emptied ∙ c.decide-found.ensures.entries;
       poured = ap (λ (s : Parts). s.conflicts) c.pour.ensures.emptied;
       refuted = λ e. empty_follows f c.negate.new.self (not-false _ (ap not (ap (λ (ls : List Lit). is_refutation (Some ls)) (sym c.as_slice.ensures) ∙ sym c.is_empty_clause.ensures) ∙ e)) (subst (λ (ls : List Lit). Follows f ls) (sym c.negate.ensures) (negated_follow f c.args.assumptions.now c.in-Verdict-Unsat.failed failed));
     }

@@ -18,6 +18,7 @@ invariant_of-self-2 c =
     record {
       backed = record { model = λ values e. absurd (no_model values e); conflict = λ lits e. absurd (no_conflict lits e) };
       front = subst (λ (x : Problem). Extends (problem_in c.self.inside.solver) x) (sym c.in_ok-grow.ensures.ok) (Extends_through (problem_in c.self.inside.solver) f (with_vars c.args.by f) c.self.invariant.front (with_vars-Extends c.args.by f));
+      entries = c.self.invariant.entries;
       poured = c.self.invariant.poured;
       refuted = λ e. subst (λ (x : Problem). Follows x []) (sym c.in_ok-grow.ensures.ok) (Follows_more f (with_vars c.args.by f) [] c.vars-vars.ensures.within.known (with_vars-Extends c.args.by f) refl (c.self.invariant.refuted e));
     }
