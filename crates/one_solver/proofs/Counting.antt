@@ -18,7 +18,7 @@ use Rattle.search.specs.Answers.{own_length, IsBelow}
 use Rattle.one_solver.specs.declared.answer.StepAnswer.{StepAnswer}
 use Rattle.one_solver.specs.declared.answer.StepAnswer.TheVariants.{Verdict, IntervalOver, Spent, Asked, Memory}
 use Rattle.one_solver.specs.Basic.{IsBasic}
-use Rattle.one_solver.specs.Parts.{Parts, problem_in, AssumesKnown}
+use Rattle.one_solver.specs.Parts.{Parts, problem_in, SameCall, AssumesKnown}
 use Rattle.one_solver.specs.Steps.{IsVerdictOrNone, IsUnderWay, IsTidy, EndsInterval, SpendsLimit, StepsRight, IsOverOrNone, HasNoModel}
 
 -- there are no more own variables than the items may come to have
@@ -94,6 +94,15 @@ pub still_known : (old new : Parts) → problem_in new ≡ problem_in old → ne
 still_known old new same kept a = record {
   known = ap (λ (f : Problem). names_known f.vars (Clause new.assumptions)) same ∙ (ap (λ (ls : List Lit). names_known (problem_in old).vars (Clause ls)) kept ∙ a.known);
   few = subst (λ (ls : List Lit). length ls < 2 ^ 32) (sym kept) a.few;
+}
+
+-- a call of the same assumptions, after as many intervals and conflicts, is still under way
+pub still_under_way : (old new : Parts) → problem_in new ≡ problem_in old → SameCall old new → IsUnderWay old → IsUnderWay new
+still_under_way old new same call u = record {
+  counted = call.conflicts ∙ (u.counted ∙ ap intervals_len (sym call.interval));
+  few = subst (λ (n : ℕ). n ≤ 2 ^ 20) (sym call.interval) u.few;
+  short = λ j l. subst (λ (f : Problem). interval_len j < 3 ^ own_count f) (sym same) (u.short j (subst (λ (n : ℕ). j < n) call.interval l));
+  assumed = still_known old new same call.assumptions u.assumed;
 }
 
 -- an interval was made whole

@@ -32,6 +32,7 @@ use Rattle.state_laws.specs.ViewLaws.{both_lists}
 use Rattle.state_laws.specs.RootTableLaws.{entry_of, entry_of-some, entry_of-push}
 use Rattle.removed_vars.specs.Removed.{fixed_value}
 use Rattle.private_state.specs.MovingLaws.{active_unnamed}
+use Rattle.sync_laws.specs.KeepLaws.{keeps_refl, keeps_trans, pushed-KeepsMet}
 use Rattle.one_solver.specs.Basic.{IsBasic}
 use Rattle.one_solver.specs.Fixing.{IsHeldOrFixed, IsFixing}
 use Rattle.one_solver.specs.Learned.{HasForgotten}
@@ -233,6 +234,7 @@ fixing_step first k n o s a e h =
       };
       fewer = let f : count_by (λ b. b) (state_of n).active < count_by (λ b. b) (state_of k).active = fewer_active k n o a e in let g : count_by (λ b. b) (state_of k).active ≤ count_by (λ b. b) (state_of first).active = h.fewer in omega arith;
       pushed = pushed_more first k n o e h.pushed;
+      met = keeps_trans (state_of first) (state_of k) (state_of n) h.met (pushed-KeepsMet k n (Fix o) refl e);
       units = λ l u. hold_step k n o l s a e (h.units l u);
     }
 
@@ -242,7 +244,7 @@ pushed_none k = record { definitions = refl; entries = []; stack = sym (append-n
 
 -- at first each is held
 pub fixing_start : (k : Kernel) → IsBasic k → IsFixing k k
-fixing_start k b = record { basic = b; same = record { items = refl; entries = refl; definitions = refl; okay = λ t. t }; fewer = omega arith; pushed = pushed_none k; units = λ l u. inl u }
+fixing_start k b = record { basic = b; same = record { items = refl; entries = refl; definitions = refl; okay = λ t. t }; fewer = omega arith; pushed = pushed_none k; met = keeps_refl (state_of k); units = λ l u. inl u }
 
 short_own : (m : Maps) (c : List InLit) → is_short (own_clause m c) ≡ is_short c
 short_own m [] = refl

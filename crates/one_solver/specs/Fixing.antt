@@ -8,6 +8,7 @@ use Rattle.sat_lits.specs.declared.literal.ClauseId.{ClauseId}
 use Rattle.clause_store.specs.Store.{Store}
 use Rattle.rebuild_stack.specs.PutIn.{same_lit}
 use Rattle.state_laws.specs.Kernel.{Kernel, state_of, TookSame}
+use Rattle.sync_laws.specs.Met.{KeepsMet}
 use Rattle.one_solver.specs.Basic.{IsBasic}
 use Rattle.one_solver.specs.Learned.{NotesLong}
 use Rattle.one_solver.specs.declared.units.Short.{Short}
@@ -25,6 +26,7 @@ pub record IsFixing (first now : Kernel) : Type 0 where
   pub same : TookSame first now
   pub fewer : count_by (λ b. b) (state_of now).active ≤ count_by (λ b. b) (state_of first).active
   pub pushed : OnlyPushed first now
+  pub met : KeepsMet (state_of first) (state_of now)
   pub units : (l : OwnLit) → list_any (is_unit (same_lit l)) (state_of first).hard ≡ true → IsHeldOrFixed now l
 
 -- a walk from one place to a clause of at most one literal, or to the end, noted the ids of the long learned clauses on its way

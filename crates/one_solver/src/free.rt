@@ -3,6 +3,8 @@ ghost use Rattle.std.specs.List.{list_all};
 ghost use Rattle.sat_lits.specs.Formulas.{names_known};
 ghost use Rattle.sat_lits.specs.declared.formula.Item.TheVariants.{Clause, Parity};
 ghost use Rattle.state_laws.specs.State.{outer_count};
+ghost use Rattle.state_laws.specs.Kernel.{state_of};
+ghost use Rattle.sync_laws.specs.Met.{KeepsMet};
 ghost use Rattle.one_solver.specs.Basic.{IsBasic};
 ghost use Rattle.one_solver.specs.Roots.{root_in, is_free, lost_var, last_var, lost_vars, last_vars, lits_of, all_lits};
 ghost use Rattle.one_solver.specs.Settled.{CameBack};
@@ -100,6 +102,7 @@ pub fn free_items(alloc: Global, state: &mut PrivateState, items: &[Item]) -> Re
     requires known { IsTrue (list_all (names_known (outer_count state.old.definitions)) items.now) }
     ensures basic { IsBasic state.new }
     ensures back { CameBack state.old state.new }
+    ensures met { KeepsMet (state_of state.old) (state_of state.new) }
     ensures free { OnOk result (IsTrue (list_all (is_free state.new) (all_lits items.now))) }
 {
     let lost = lost_in(alloc, state, items)?;
@@ -112,6 +115,7 @@ pub fn free_lits(alloc: Global, state: &mut PrivateState, lits: &[Lit]) -> Resul
     requires known { IsTrue (names_known (outer_count state.old.definitions) (Clause lits.now)) }
     ensures basic { IsBasic state.new }
     ensures back { CameBack state.old state.new }
+    ensures met { KeepsMet (state_of state.old) (state_of state.new) }
     ensures free { OnOk result (IsTrue (list_all (is_free state.new) lits.now)) }
 {
     let mut lost = Vec::new(alloc);

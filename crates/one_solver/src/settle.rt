@@ -5,6 +5,7 @@ ghost use Rattle.sat_lits.specs.declared.formula.Item.TheVariants.{Clause};
 ghost use Rattle.state_laws.specs.State.{outer_count};
 ghost use Rattle.state_laws.specs.Kernel.{state_of, TookSame};
 ghost use Rattle.var_elim.specs.Eliminating.{NoneCanGo};
+ghost use Rattle.sync_laws.specs.Met.{KeepsMet};
 ghost use Rattle.one_solver.specs.Basic.{IsBasic};
 ghost use Rattle.one_solver.specs.Roots.{is_free, last_vars};
 ghost use Rattle.one_solver.specs.Settled.{IsDone, HasFewer};
@@ -33,6 +34,7 @@ pub fn settle(
     requires known { IsTrue (names_known (outer_count state.old.definitions) (Clause assumptions.now)) }
     ensures basic { IsBasic state.new }
     ensures same { TookSame state.old state.new }
+    ensures met { KeepsMet (state_of state.old) (state_of state.new) }
     ensures free { OnOk result (IsTrue (list_all (is_free state.new) assumptions.now)) }
     ensures fixed { OnOk result (IsTrue state.new.okay → FixesUnits state.old state.new) }
     ensures left { OnOk result (IsTrue state.new.okay → HasNoUnits state.new) }
@@ -57,6 +59,7 @@ fn repeat_rounds(
     requires left { IsTrue state.old.okay → HasNoUnits state.old }
     ensures basic { IsBasic state.new }
     ensures same { TookSame state.old state.new }
+    ensures met { KeepsMet (state_of state.old) (state_of state.new) }
     ensures free { OnOk result (IsTrue (list_all (is_free state.new) assumptions.now)) }
     ensures stays { StayFixed state.old state.new }
     ensures left { OnOk result (IsTrue state.new.okay → HasNoUnits state.new) }
@@ -84,6 +87,7 @@ fn make_round(
     requires left { IsTrue state.old.okay → HasNoUnits state.old }
     ensures basic { IsBasic state.new }
     ensures same { TookSame state.old state.new }
+    ensures met { KeepsMet (state_of state.old) (state_of state.new) }
     ensures free { OnOk result (IsTrue (list_all (is_free state.new) assumptions.now)) }
     ensures stays { StayFixed state.old state.new }
     ensures left { OnOk result (IsTrue state.new.okay → HasNoUnits state.new) }
@@ -112,6 +116,7 @@ fn eliminate_others(
     requires free { IsTrue (list_all (is_free state.old) assumptions.now) }
     ensures basic { IsBasic state.new }
     ensures same { TookSame state.old state.new }
+    ensures met { KeepsMet (state_of state.old) (state_of state.new) }
     ensures free { IsTrue (list_all (is_free state.new) assumptions.now) }
     ensures stays { StayFixed state.old state.new }
     ensures fewer { IfOk result (λ n. count_by (λ b. b) (state_of state.new).active + n ≡ count_by (λ b. b) (state_of state.old).active) }

@@ -8,6 +8,7 @@ ghost use Rattle.sat_lits.specs.declared.shared.Shared.{Shared};
 ghost use Rattle.sat_lits.specs.declared.verdict.Verdict.TheVariants.{Unsat};
 ghost use Rattle.state_laws.specs.Conditions.{IsContradicted};
 ghost use Rattle.state_laws.specs.Kernel.{state_of, Standing};
+ghost use Rattle.sync_laws.specs.Met.{KeepsMet};
 ghost use Rattle.sync_laws.specs.Steps.{IsTurn};
 ghost use Rattle.data_sync.specs.Taking.{others};
 ghost use Rattle.search.specs.Answers.{IsInnerModel, AreFailed};
@@ -112,6 +113,7 @@ impl OneSolver {
         ensures same { SameCall self.old self.new }
         ensures okay { self.new.kernel.okay ≡ self.old.kernel.okay }
         ensures exchange { NoExchange self.old self.new }
+        ensures in_step { (log : List Shared) → IsInStep self.old log → IsInStep self.new log }
     {
         take_formula(self.alloc, &mut self.state, formula)
     }
@@ -138,6 +140,7 @@ impl OneSolver {
         ensures number { self.new.number ≡ self.old.number }
         ensures refuted { self.old.kernel.okay ≡ false → self.new.kernel.okay ≡ false }
         ensures exchange { NoExchange self.old self.new }
+        ensures in_step { (log : List Shared) → IsInStep self.old log → IsInStep self.new log }
     {
         self.tally = Tally::new();
         self.interval = 0;
@@ -176,6 +179,7 @@ impl OneSolver {
         ensures problem { problem_in self.new ≡ problem_in self.old }
         ensures number { self.new.number ≡ self.old.number }
         ensures exchange { NoExchange self.old self.new }
+        ensures in_step { (log : List Shared) → IsInStep self.old log → IsInStep self.new log }
         ensures interval { result ≢ StepAnswer.IntervalOver → self.new.interval ≡ self.old.interval }
         ensures assumptions { self.new.assumptions ≡ self.old.assumptions }
         ensures more { self.old.conflicts ≤ self.new.conflicts }
@@ -198,7 +202,7 @@ impl OneSolver {
         requires { AssumesKnown self.old }
         ensures free { OnOk result (CanAssume self.new) }
         ensures okay { self.new.kernel.okay ≡ self.old.kernel.okay }
-        ensures entries { self.new.kernel.entries ≡ self.old.kernel.entries }
+        ensures met { KeepsMet (state_of self.old.kernel) (state_of self.new.kernel) }
         ensures same { self.new ≡ record self.old { kernel = self.new.kernel } }
         ensures problem { problem_in self.new ≡ problem_in self.old }
     {
@@ -217,6 +221,7 @@ impl OneSolver {
         ensures problem { problem_in self.new ≡ problem_in self.old }
         ensures number { self.new.number ≡ self.old.number }
         ensures exchange { NoExchange self.old self.new }
+        ensures met { KeepsMet (state_of self.old.kernel) (state_of self.new.kernel) }
         ensures interval { result ≢ StepAnswer.IntervalOver → self.new.interval ≡ self.old.interval }
         ensures assumptions { self.new.assumptions ≡ self.old.assumptions }
         ensures more { self.old.conflicts ≤ self.new.conflicts }
@@ -254,6 +259,7 @@ impl OneSolver {
         ensures problem { problem_in self.new ≡ problem_in self.old }
         ensures number { self.new.number ≡ self.old.number }
         ensures exchange { NoExchange self.old self.new }
+        ensures met { KeepsMet (state_of self.old.kernel) (state_of self.new.kernel) }
         ensures interval { result ≢ StepAnswer.IntervalOver → self.new.interval ≡ self.old.interval }
         ensures assumptions { self.new.assumptions ≡ self.old.assumptions }
         ensures more { self.old.conflicts ≤ self.new.conflicts }
@@ -301,6 +307,7 @@ impl OneSolver {
         ensures err { OnErr result (self.new.took ≡ self.old.took) }
         ensures problem { problem_in self.new ≡ problem_in self.old }
         ensures same { SameCall self.old self.new }
+        ensures call { IsUnderWay self.old → IsUnderWay self.new }
     {
         let report = self.book.sync(&mut self.state, store, self.number)?;
         self.took = report.took;
@@ -388,7 +395,7 @@ impl OneSolver {
         ensures answer { IsVerdictOrNone (problem_in self.old) self.old.assumptions result }
         ensures same { self.new ≡ record self.old { kernel = self.new.kernel } }
         ensures problem { problem_in self.new ≡ problem_in self.old }
-        ensures taken { self.new.kernel.entries ≡ self.old.kernel.entries }
+        ensures met { KeepsMet (state_of self.old.kernel) (state_of self.new.kernel) }
     {
         if failed.is_empty() {
             return self.unsat();
@@ -422,7 +429,7 @@ impl OneSolver {
         ensures right { HasNoModel (problem_in self.old) }
         ensures same { self.new ≡ record self.old { kernel = self.new.kernel } }
         ensures problem { problem_in self.new ≡ problem_in self.old }
-        ensures taken { self.new.kernel.entries ≡ self.old.kernel.entries }
+        ensures met { KeepsMet (state_of self.old.kernel) (state_of self.new.kernel) }
     {
         self.state.refute();
         StepAnswer::Verdict(Verdict::Unsat(List::new(self.alloc)))
@@ -434,6 +441,7 @@ impl OneSolver {
         ensures answer { IsOverOrNone result }
         ensures over { result ≡ StepAnswer.IntervalOver → IsTidy self.old.interval self.new }
         ensures exchange { NoExchange self.old self.new }
+        ensures met { KeepsMet (state_of self.old.kernel) (state_of self.new.kernel) }
         ensures interval { result ≢ StepAnswer.IntervalOver → self.new.interval ≡ self.old.interval }
         ensures conflicts { self.new.conflicts ≡ self.old.conflicts }
         ensures assumptions { self.new.assumptions ≡ self.old.assumptions }
@@ -454,7 +462,7 @@ impl OneSolver {
     fn tidy(&mut self, keep: usize) -> Result<(), NoMemory>
         ensures units { OnOk result (IsTrue self.new.kernel.okay → HasNoUnits self.new.kernel) }
         ensures few { OnOk result (HasFewLong keep self.new.kernel) }
-        ensures taken { self.new.kernel.entries ≡ self.old.kernel.entries }
+        ensures met { KeepsMet (state_of self.old.kernel) (state_of self.new.kernel) }
         ensures same { self.new ≡ record self.old { kernel = self.new.kernel } }
         ensures problem { problem_in self.new ≡ problem_in self.old }
     {

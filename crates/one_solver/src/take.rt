@@ -4,6 +4,7 @@ ghost use Rattle.sat_lits.specs.Conflicts.{own_count};
 ghost use Rattle.sat_lits.specs.Formulas.{Extends, names_known};
 ghost use Rattle.state_laws.specs.State.{outer_count, problem_of};
 ghost use Rattle.state_laws.specs.Kernel.{state_of};
+ghost use Rattle.sync_laws.specs.Met.{KeepsMet};
 ghost use Rattle.one_solver.specs.Basic.{IsBasic};
 ghost use Rattle.one_solver.specs.Roots.{is_free, all_lits};
 ghost use Rattle.one_solver.specs.Taken.{HasTaken, with_items};
@@ -27,7 +28,7 @@ pub fn take_formula(
     ensures front { Extends (problem_of (state_of state.new)) formula.now.problem }
     ensures longer { Extends (problem_of (state_of state.old)) (problem_of (state_of state.new)) }
     ensures okay { state.new.okay ≡ state.old.okay }
-    ensures entries { state.new.entries ≡ state.old.entries }
+    ensures met { KeepsMet (state_of state.old) (state_of state.new) }
 {
     state.grow(formula.vars())?;
     let taken = state.taken();

@@ -1,9 +1,9 @@
 ghost use Rattle.std.specs.Prelude.{◌≡◌, None, map, filter, IfOk, OnOk, IsTrue};
 ghost use Rattle.clause_store.specs.Store.{IsKept, contents, is_live};
 ghost use Rattle.state_laws.specs.Kernel.{state_of, TookSame};
+ghost use Rattle.sync_laws.specs.Met.{KeepsMet};
 ghost use Rattle.one_solver.specs.Basic.{IsBasic};
 ghost use Rattle.one_solver.specs.Learned.{is_long, HasFewLong, NotesLong};
-ghost use Rattle.one_solver.specs.Settled.{OnlyPushed};
 ghost use Rattle.one_solver.specs.Units.{HasNoUnits};
 
 use crate::learned::{drop_old, long_learned};
@@ -21,7 +21,7 @@ pub fn tidy(alloc: Global, state: &mut PrivateState, keep: usize) -> Result<(), 
     requires basic { IsBasic state.old }
     ensures basic { IsBasic state.new }
     ensures same { TookSame state.old state.new }
-    ensures pushed { OnlyPushed state.old state.new }
+    ensures met { KeepsMet (state_of state.old) (state_of state.new) }
     ensures left { OnOk result (IsTrue state.new.okay → HasNoUnits state.new) }
     ensures few { OnOk result (HasFewLong keep state.new) }
 {

@@ -1,5 +1,6 @@
 ghost use Rattle.std.specs.Prelude.{◌≡◌, ◌≤◌, [], Some, None, count_by, IfSome, IfOk, OnOk, IsTrue};
 ghost use Rattle.clause_store.specs.Store.{IsKept, Held, clause_at, is_live};
+ghost use Rattle.sync_laws.specs.Met.{KeepsMet};
 ghost use Rattle.one_solver.specs.Basic.{IsBasic};
 ghost use Rattle.one_solver.specs.Learned.{numbers_in, NotesLong};
 ghost use Rattle.one_solver.specs.Fixing.{NotesTo};
@@ -44,6 +45,7 @@ pub fn fix_units(state: &mut PrivateState) -> Result<(), NoMemory>
     ensures same { TookSame state.old state.new }
     ensures fewer { count_by (λ b. b) (state_of state.new).active ≤ count_by (λ b. b) (state_of state.old).active }
     ensures pushed { OnlyPushed state.old state.new }
+    ensures met { KeepsMet (state_of state.old) (state_of state.new) }
     ensures fixed { OnOk result (IsTrue state.new.okay → FixesUnits state.old state.new) }
     ensures left { OnOk result (IsTrue state.new.okay → HasNoUnits state.new) }
 {
@@ -67,6 +69,7 @@ pub fn fix_each(state: &mut PrivateState, ids: &mut Option<Vec<ClauseId>>) -> Re
     ensures same { TookSame state.old state.new }
     ensures fewer { count_by (λ b. b) (state_of state.new).active ≤ count_by (λ b. b) (state_of state.old).active }
     ensures pushed { OnlyPushed state.old state.new }
+    ensures met { KeepsMet (state_of state.old) (state_of state.new) }
     ensures fixed { OnOk result (IsTrue state.new.okay → FixesUnits state.old state.new) }
     ensures left { OnOk result (IsTrue state.new.okay → HasNoUnits state.new) }
     ensures noted { OnOk result (NotesLong state.new.store None ids.new) }

@@ -6,6 +6,10 @@ use Rattle.sat_lits.specs.ConflictLaws.{own_count-few}
 use Rattle.sat_lits.specs.Formulas.{names_known}
 use Rattle.sat_lits.specs.declared.formula.Item.{Item}
 use Rattle.state_laws.specs.State.{State, outer_count}
+use Rattle.state_laws.specs.Kernel.{state_of}
+use Rattle.state_laws.specs.Moves.{grown}
+use Rattle.sync_laws.specs.Met.{KeepsMet}
+use Rattle.sync_laws.specs.KeepLaws.{keeps_as, keeps_trans, plain-KeepsMet, grown-KeepsMet}
 use Rattle.one_solver.specs.Taken.{HasTaken, with_items}
 use Rattle.one_solver.proofs.Taking.{has_room, grown_basic, grown_count, rest_is, rest_passes, rest_room, took_some, took_all, took_longer, came_front, came_longer}
 use Rattle.one_solver.proofs.take.take_formula.Goals as goal
@@ -86,3 +90,24 @@ returns-clause-longer c =
     let (m, h) = subst (λ (xs : List Item). (n : ℕ) × HasTaken c.free_items.new.state c.take_items.new.state (take n xs)) (rest d) c.take_items.ensures.some in
     took_longer c.args.formula.now.problem c.args.state.now c.free_items.new.state c.take_items.new.state (take m c.requires.front.more) vars c.requires.front.vars
     (c.free_items.ensures.back.same.items ∙ ap (λ (z : State). z.items) c.in_ok-grow.ensures.ok) h
+
+-- what is met stays so where the state grows
+grown_met : (c : After-items) → KeepsMet (state_of c.args.state.now) (state_of c.grow.new.self)
+grown_met c =
+    let more : ℕ = c.vars.result - outer_count c.args.state.now.definitions in
+    keeps_as (state_of c.args.state.now) (grown more (state_of c.args.state.now)) (state_of c.grow.new.self) c.in_ok-grow.ensures.ok (grown-KeepsMet more (state_of c.args.state.now))
+
+pub returns-in_err-grow-clause-met : goal.returns-in_err-grow-clause-met
+returns-in_err-grow-clause-met c = plain-KeepsMet c.args.state.now c.grow.new.self c.in_err-grow.ensures.err
+
+pub returns-in_err-free_items-clause-met : goal.returns-in_err-free_items-clause-met
+returns-in_err-free_items-clause-met c =
+    let d : After-items = (goal.at.returns-in_err-free_items-clause-met c).After-items in
+    keeps_trans (state_of c.args.state.now) (state_of c.grow.new.self) (state_of c.free_items.new.state) (grown_met d) c.free_items.ensures.met
+
+pub returns-clause-met : goal.returns-clause-met
+returns-clause-met c =
+    let d : After-items = (goal.at.returns-clause-met c).After-items in
+    let (n, h) = c.take_items.ensures.some in
+    keeps_trans (state_of c.args.state.now) (state_of c.free_items.new.state) (state_of c.take_items.new.state)
+    (keeps_trans (state_of c.args.state.now) (state_of c.grow.new.self) (state_of c.free_items.new.state) (grown_met d) c.free_items.ensures.met) h.met

@@ -8,6 +8,7 @@ use Rattle.state_laws.specs.State.{is_active}
 use Rattle.state_laws.specs.Conditions.{EntryFollows}
 use Rattle.state_laws.specs.Held.{own_of}
 use Rattle.state_laws.specs.Kernel.{state_of}
+use Rattle.sync_laws.specs.KeepLaws.{keeps_trans, plain-KeepsMet, refuting-KeepsMet}
 use Rattle.one_solver.specs.Fixing.{NotesTo}
 use Rattle.one_solver.specs.Learned.{NotesLong}
 use Rattle.one_solver.specs.Units.{is_empty, are_long, FindsShort, FindsSingle, HasNoUnits}
@@ -90,3 +91,11 @@ returns-in-End-clause-noted c =
     subst (λ (s : Store). NotesLong s None c.find_short.new.ids) c.clauses-in-units.ensures.value
     (subst (λ (f : Short). NotesTo c.clauses-in-units.result.now c.units.at f c.units.ids c.find_short.new.ids) c.in-End.is c.in_ok-find_short.ensures.noted
     (subst (λ (s : Store). NotesLong s c.units.at c.units.ids) (sym c.clauses-in-units.ensures.value) c.units.invariant.noted))
+
+pub returns-in-Empty-clause-met : goal.returns-in-Empty-clause-met
+returns-in-Empty-clause-met c =
+    keeps_trans (state_of c.args.state.now) (state_of c.units.state) (state_of c.refute.new.self) c.units.invariant.fixing.met (refuting-KeepsMet c.units.state c.refute.new.self c.refute.ensures.value)
+
+pub returns-in_err-fix-in-Single-clause-met : goal.returns-in_err-fix-in-Single-clause-met
+returns-in_err-fix-in-Single-clause-met c =
+    keeps_trans (state_of c.args.state.now) (state_of c.units.state) (state_of c.fix.new.self) c.units.invariant.fixing.met (plain-KeepsMet c.units.state c.fix.new.self c.in_err-fix-in-Single.ensures.err)

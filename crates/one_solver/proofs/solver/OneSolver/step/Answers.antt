@@ -1,7 +1,9 @@
-use Rattle.std.proofs.Common.{List, sym, subst, ◌∙◌}
+use Rattle.std.proofs.Common.{List, sym, ap, subst, ◌∙◌}
 use Rattle.sat_lits.specs.Verdicts.{IsFailed}
 use Rattle.sat_lits.specs.declared.literal.Lit.{Lit}
-use Rattle.one_solver.specs.InStep.{EntriesFollow, follow_same}
+use Rattle.state_laws.specs.Kernel.{state_of}
+use Rattle.sync_laws.specs.KeepLaws.{keeps_trans}
+use Rattle.one_solver.specs.InStep.{EntriesFollow, follow_same, in_step_kept}
 use Rattle.one_solver.specs.Kept.{parts_of}
 use Rattle.one_solver.specs.Parts.{Parts, problem_in}
 use Rattle.one_solver.specs.Steps.{HasNoModel}
@@ -18,4 +20,14 @@ returns-then-not-okay-clause-right g c =
 
 pub search_mapped-requires-clause-entries : goal.search_mapped-requires-clause-entries
 search_mapped-requires-clause-entries g c =
-    follow_same c.args.self.now c.free_assumptions.new.self c.free_assumptions.ensures.problem c.free_assumptions.ensures.entries c.requires.entries
+    follow_same c.args.self.now c.free_assumptions.new.self c.free_assumptions.ensures.problem c.free_assumptions.ensures.met.entries c.requires.entries
+
+pub returns-in-Ok-clause-in_step : goal.returns-in-Ok-clause-in_step
+returns-in-Ok-clause-in_step g c =
+    in_step_kept c.args.self.now c.search_mapped.new.self
+    (keeps_trans (state_of c.args.self.now.kernel) (state_of c.free_assumptions.new.self.kernel) (state_of c.search_mapped.new.self.kernel) c.free_assumptions.ensures.met c.search_mapped.ensures.met)
+    (c.search_mapped.ensures.exchange.book ∙ ap (λ (s : Parts). s.book) c.free_assumptions.ensures.same)
+
+pub returns-in-Err-clause-in_step : goal.returns-in-Err-clause-in_step
+returns-in-Err-clause-in_step g c =
+    in_step_kept c.args.self.now c.free_assumptions.new.self c.free_assumptions.ensures.met (ap (λ (s : Parts). s.book) c.free_assumptions.ensures.same)

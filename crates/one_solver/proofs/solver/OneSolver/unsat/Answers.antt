@@ -2,6 +2,8 @@ use Rattle.std.proofs.Common.{subst, sym, ap}
 use Rattle.state_laws.specs.State.{problem_of}
 use Rattle.state_laws.specs.Conditions.{IsContradicted}
 use Rattle.state_laws.specs.Kernel.{Kernel, state_of}
+use Rattle.sync_laws.specs.Met.{KeepsMet}
+use Rattle.sync_laws.specs.KeepLaws.{refuting-KeepsMet}
 use Rattle.one_solver.specs.InStep.{EntriesFollow, follow_same}
 use Rattle.one_solver.specs.Kept.{parts_of}
 use Rattle.one_solver.specs.Parts.{Parts, problem_in}
@@ -21,3 +23,6 @@ returns-clause-right c =
     subst (λ (s : Parts). HasNoModel (problem_in s)) c.self.view_is
     (subst (λ (k : Kernel). HasNoModel (problem_of (state_of k))) c.refute.ensures.value
     (no_model new c.refute.ensures.standing follow (ap (λ (k : Kernel). k.okay) c.refute.ensures.value)))
+
+pub returns-clause-met : goal.returns-clause-met
+returns-clause-met c = subst (λ (s : Parts). KeepsMet (state_of s.kernel) (state_of c.refute.new.self)) c.self.view_is (refuting-KeepsMet c.self.inside.state c.refute.new.self c.refute.ensures.value)
