@@ -27,9 +27,9 @@ pub negated_follow : (f : Problem) (assumptions failed : List Lit) → IsFailed 
 negated_follow f assumptions failed h values m = one_false values failed (h.contradict values m)
 
 -- failed assumptions that were found, in a verdict that was found
-pub found_failed : (f : Problem) (assumptions : List Lit) (limit : Option ℕ) (conflicts : ℕ) (found : Finding) (verdict : Verdict) (failed : List Lit) → found ≡ decision.Verdict verdict → verdict ≡ Unsat failed → IsFound f assumptions limit conflicts found → IsFailed f assumptions failed
-found_failed f assumptions limit conflicts found verdict failed e v h =
-    let P : Finding → Type 0 = λ x. IsFound f assumptions limit conflicts x in
+pub found_failed : (f : Problem) (assumptions : List Lit) (limit : Option ℕ) (conflicts before now : ℕ) (found : Finding) (verdict : Verdict) (failed : List Lit) → found ≡ decision.Verdict verdict → verdict ≡ Unsat failed → IsFound f assumptions limit conflicts before now found → IsFailed f assumptions failed
+found_failed f assumptions limit conflicts before now found verdict failed e v h =
+    let P : Finding → Type 0 = λ x. IsFound f assumptions limit conflicts before now x in
     let Q : Verdict → Type 0 = λ x. IsRight f assumptions x in
     subst Q v (subst P e h)
 

@@ -5,7 +5,7 @@ ghost use Rattle.sat_lits.specs.Limits.{standard_limits};
 ghost use Rattle.sat_lits.specs.Meaning.{IsModel, Follows};
 ghost use Rattle.sat_lits.specs.Formulas.{with_vars, with_item, first_unknown, numbers_of, names_known, lit_count};
 ghost use Rattle.sat_api.specs.State.{new_solver, unanswered, with_problem, Keeps};
-ghost use Rattle.sat_api.specs.Answers.{Answers, Decides, KeepsOkay, AnswersAtOnce, is_refutation};
+ghost use Rattle.sat_api.specs.Answers.{Answers, Decides, Completes, KeepsOkay, AnswersAtOnce, is_refutation};
 
 use crate::decide::{Finding, decide};
 use crate::error::ApiError;
@@ -23,6 +23,8 @@ pub enum Cause {
     /// Each solver made as many conflicts as the limit allows. There is one count for each solver,
     /// and each is the limit.
     Limit { counts: List<u64> },
+    /// The alarm asked for a stop.
+    Alarm,
 }
 
 /// What `solve` found.
@@ -162,11 +164,17 @@ impl SatSolver {
     /// `NoSuchVar` comes before anything else, exactly where an assumption's variable is not there,
     /// and names the first such; nothing changes then. Where `okay` is false the answer is `Unsat`
     /// at once, with the empty conflict. After `Sat` the model is there to be read, and after
-    /// `Unsat` the conflict. `Unknown` comes only where a conflict limit is set, `conflicts` rose in
-    /// this call by at least the limit, and the limit is less than the number of conflicts that is
-    /// enough to decide the formula. `Memory` is the only other error: then the items stand, and
-    /// neither model nor conflict is there. Where a conflict limit is set, `conflicts` never rises by
-    /// more than the limit, whatever the answer. No thread is started, and the alarm is not asked.
+    /// `Unsat` the conflict. `Unknown` names its cause. `Limit` comes only where a conflict limit is
+    /// set, `conflicts` rose in this call by at least the limit, and the limit is less than the number
+    /// of conflicts that is enough to decide the formula. `Alarm` comes only where the count of the
+    /// alarm rose in this call. So without a limit, or with one that is enough, and without a raise
+    /// there is a verdict or want of memory. After `Unknown` the items stand, and the question may be
+    /// asked again.
+    ///
+    /// `Memory` is the only other error: then the items stand, and neither model nor conflict is
+    /// there. Where a conflict limit is set, `conflicts` never rises by more than the limit, whatever
+    /// the answer. The alarm is polled first of all, but for a question that is refused or answered at
+    /// once, where it is not polled. No thread is started.
     pub fn solve<R: Threads + Sync, A: Alarm + Send>(
         &mut self,
         rt: &R,
@@ -174,36 +182,40 @@ impl SatSolver {
         alarm: &mut A,
     ) -> Result<Answer, ApiError>
         requires { length assumptions.now ≤ 2 ^ 31 }
-        ensures answers { IfOk result (Answers self.old self.new assumptions.now) }
+        ensures answers { IfOk result (Answers self.old self.new assumptions.now (A.raises alarm.old) (A.raises alarm.new)) }
         ensures decided { IfOk result (Decides self.old.problem assumptions.now) }
+        ensures completes { IfOk result (Completes self.old (A.raises alarm.old) (A.raises alarm.new)) }
         ensures okay { IfOk result (λ answer. KeepsOkay self.old self.new) }
         ensures at_once { IfOk result (AnswersAtOnce self.old self.new) }
 
         ensures keeps { Keeps self.old self.new }
-        ensures raises { A.raises alarm.new ≡ A.raises alarm.old }
+        ensures later { A.raises alarm.old ≤ A.raises alarm.new }
+        ensures unpolled { self.old.okay ≡ false → alarm.new ≡ alarm.old }
 
         ensures no_such_var { (n : ℕ) → (result ≡ Err (ApiError.NoSuchVar n))
             ↔ (first_unknown self.old.problem.vars (numbers_of (Clause assumptions.now)) ≡ Some n) }
-        ensures refused { (n : ℕ) → result ≡ Err (ApiError.NoSuchVar n) → self.new ≡ self.old }
+        ensures refused { (n : ℕ) → result ≡ Err (ApiError.NoSuchVar n) → (self.new ≡ self.old) × (alarm.new ≡ alarm.old) }
         ensures memory { result ≡ Err ApiError.Memory → self.new ≡ unanswered (record self.old { counted = self.new.counted }) }
         ensures only { IfErr result (λ e. (e ≡ ApiError.Memory) ⊎ (n : ℕ) × (e ≡ ApiError.NoSuchVar n)) }
     {
         if let Some(var) = unknown_lit(self.formula.vars(), assumptions) {
             return Err(ApiError::NoSuchVar { var });
         }
-        let answer = self.ask(assumptions)?;
+        let answer = self.ask(assumptions, alarm)?;
         Ok(answer)
     }
 
     /// The same where the variables of the assumptions are there.
-    fn ask(&mut self, assumptions: &[Lit]) -> Result<Answer, NoMemory>
+    fn ask<A: Alarm>(&mut self, assumptions: &[Lit], alarm: &mut A) -> Result<Answer, NoMemory>
         requires few { length assumptions.now ≤ 2 ^ 31 }
         requires known { IsTrue (names_known self.old.problem.vars (Clause assumptions.now)) }
-        ensures answers { IfOk result (Answers self.old self.new assumptions.now) }
+        ensures answers { IfOk result (Answers self.old self.new assumptions.now (A.raises alarm.old) (A.raises alarm.new)) }
         ensures decided { IfOk result (Decides self.old.problem assumptions.now) }
         ensures okay { IfOk result (λ answer. KeepsOkay self.old self.new) }
         ensures at_once { IfOk result (AnswersAtOnce self.old self.new) }
         ensures keeps { Keeps self.old self.new }
+        ensures later { A.raises alarm.old ≤ A.raises alarm.new }
+        ensures unpolled { self.old.okay ≡ false → alarm.new ≡ alarm.old }
         ensures err { OnErr result (self.new ≡ unanswered (record self.old { counted = self.new.counted })) }
     {
         self.model = None;
@@ -219,6 +231,7 @@ impl SatSolver {
             &self.formula,
             assumptions,
             self.max_conflicts,
+            alarm,
         );
         self.solver.pour(&mut self.tally);
         match found? {
@@ -236,6 +249,7 @@ impl SatSolver {
                 let counts = List::from_slice(self.alloc, &[count])?;
                 Ok(Answer::Unknown(Cause::Limit { counts }))
             }
+            Finding::Interrupted => Ok(Answer::Unknown(Cause::Alarm)),
         }
     }
 

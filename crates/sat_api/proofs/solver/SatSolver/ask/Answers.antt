@@ -14,9 +14,9 @@ some_same : (a b : List Lit) → Some a ≡ Some b → a ≡ b
 some_same a b e = cc
 
 pub invariant_of-self-in-Verdict-Unsat : goal.invariant_of-self-in-Verdict-Unsat
-invariant_of-self-in-Verdict-Unsat c =
+invariant_of-self-in-Verdict-Unsat g c =
     let f : Problem = c.self.inside.formula.problem in
-    let failed : IsFailed f c.args.assumptions.now c.in-Verdict-Unsat.failed = found_failed f c.args.assumptions.now c.self.inside.max_conflicts _ c.in_ok-values.field-0 c.in-Verdict-Unsat.field-0 c.in-Verdict-Unsat.failed c.in-Verdict-Unsat.is c.in-Verdict-Unsat.field-0-is c.in_ok-values.ensures.found in
+    let failed : IsFailed f c.args.assumptions.now c.in-Verdict-Unsat.failed = found_failed f c.args.assumptions.now c.self.inside.max_conflicts _ _ _ c.in_ok-values.field-0 c.in-Verdict-Unsat.field-0 c.in-Verdict-Unsat.failed c.in-Verdict-Unsat.is c.in-Verdict-Unsat.field-0-is c.in_ok-values.ensures.found in
     record {
       backed = record {
         model = λ values e. absurd (let none : ◌≡◌ {A = Option (List Bool)} None (Some values) = e in cc);
@@ -32,7 +32,7 @@ invariant_of-self-in-Verdict-Unsat c =
 
 pub returns-in-Verdict-Unsat-clause-decided :
     goal.returns-in-Verdict-Unsat-clause-decided
-returns-in-Verdict-Unsat-clause-decided c =
+returns-in-Verdict-Unsat-clause-decided g c =
     let f : Problem = c.self.inside.formula.problem in
-    let failed : IsFailed f c.args.assumptions.now c.in-Verdict-Unsat.failed = found_failed f c.args.assumptions.now c.self.inside.max_conflicts _ c.in_ok-values.field-0 c.in-Verdict-Unsat.field-0 c.in-Verdict-Unsat.failed c.in-Verdict-Unsat.is c.in-Verdict-Unsat.field-0-is c.in_ok-values.ensures.found in
+    let failed : IsFailed f c.args.assumptions.now c.in-Verdict-Unsat.failed = found_failed f c.args.assumptions.now c.self.inside.max_conflicts _ _ _ c.in_ok-values.field-0 c.in-Verdict-Unsat.field-0 c.in-Verdict-Unsat.failed c.in-Verdict-Unsat.is c.in-Verdict-Unsat.field-0-is c.in_ok-values.ensures.found in
     subst (λ (s : SolverState). HasModelUnder s.problem c.args.assumptions.now → ⊥) c.self.view_is (none_under f c.in-Verdict-Unsat.failed c.args.assumptions.now failed)
