@@ -69,7 +69,7 @@ tells_but : (qs : List Question) (reports : List Report) (a b c : World) → Sam
 tells_but qs reports a b c same t =
     subst (λ (n : ℕ). Tells qs reports a (record { solver = c.solver; raised = n; sink = c.sink })) (sym same.raised)
     (subst (λ (s : SolverState). Tells qs reports a (record { solver = s; raised = b.raised; sink = c.sink })) (sym same.solver)
-    (record { right = t.right; counted = t.counted; unasked = t.unasked; settings = t.settings }))
+    (record { right = t.right; counted = t.counted; raised = t.raised; later = t.later; settings = t.settings }))
 
 -- the refusal's text was written, or not whole
 pub refusal_written : (given commands : List Command) (why : Refusal) (a b c d : World) → a.solver.problem ≡ no_problem → Carries given a b → Carries commands b c → d.solver ≡ c.solver → d.raised ≡ c.raised
@@ -89,7 +89,7 @@ pub refusal_stops : {X : Type 0} (h : Halt) (given commands : List Command) (why
     → d.solver ≡ c.solver → d.raised ≡ c.raised → WritesText (text_of_refusal why) result c.sink d.sink → StopsRight (halted h) (reading (given ++ commands) (Refused why)) a d
 refusal_stops Memory given commands why result a b c d e began p q solver raised written =
     stop_last Memory given commands (Refused why) a b d began p
-    (let s = stops_commands Memory commands [] b c d q (stops_here [] c d (let x = ap (λ (t : SolverState). t.counted) solver in omega arith) raised
+    (let s = stops_commands Memory commands [] b c d q (stops_here [] c d (let x = ap (λ (t : SolverState). t.counted) solver in omega arith) (omega (arith, raised))
     (record { limits = ap (λ (t : SolverState). t.limits) solver; max_conflicts = ap (λ (t : SolverState). t.max_conflicts) solver }) (written.none e)) in
     subst (λ (cs : List Command). StopsAmong Memory (questions_from b.solver.problem cs) b d) (append-nil commands) s)
 refusal_stops Write given commands why result a b c d e began p q solver raised written =

@@ -8,7 +8,7 @@ use Rattle.sat_ports.specs.Causes.{Rose, RoseBy}
 use Rattle.sat_api.specs.State.{SolverState}
 use Rattle.dimacs_text.specs.declared.command.Command.{Command}
 use Rattle.sat_run.specs.Questions.{Question, questions_from, after, after_all, asked}
-use Rattle.sat_run.specs.Reports.{AreRight, blocks_text, text_of_report, conflicts_of_all}
+use Rattle.sat_run.specs.Reports.{AreRight, blocks_text, text_of_report, conflicts_of_all, raises_of_all}
 use Rattle.sat_run.specs.Writing.{Port}
 use Rattle.sat_run.specs.World.{World, KeepsSettings, Tells, Carries, StopsAmong, IsCut, IsHaltOf}
 use Rattle.sat_run.specs.declared.report.Report.{Report}
@@ -38,6 +38,10 @@ conflicts_of_all-append : (rs ss : List Report) → conflicts_of_all (rs ++ ss) 
 conflicts_of_all-append [] ss = omega arith
 conflicts_of_all-append (r ∷ rs) ss = let e = conflicts_of_all-append rs ss in omega arith
 
+raises_of_all-append : (rs ss : List Report) → raises_of_all (rs ++ ss) ≡ raises_of_all rs + raises_of_all ss
+raises_of_all-append [] ss = omega arith
+raises_of_all-append (r ∷ rs) ss = let e = raises_of_all-append rs ss in omega arith
+
 right-append : (limit : Option ℕ) (qs ps : List Question) (rs ss : List Report) → AreRight limit qs rs → AreRight limit ps ss → AreRight limit (qs ++ ps) (rs ++ ss)
 right-append limit [] ps [] ss p q = q
 right-append limit [] ps (r ∷ rs) ss p q = absurd p
@@ -48,8 +52,8 @@ settings_then : (s t u : SolverState) → KeepsSettings s t → KeepsSettings t 
 settings_then s t u p q = record { limits = q.limits ∙ p.limits; max_conflicts = q.max_conflicts ∙ p.max_conflicts }
 
 -- nothing is told of no question
-pub tells_none : (a b : World) → a.solver.counted ≤ b.solver.counted → b.raised ≡ a.raised → KeepsSettings a.solver b.solver → Tells [] [] a b
-tells_none a b counted quiet settings = record { right = tt; counted = omega arith; unasked = quiet; settings = settings }
+pub tells_none : (a b : World) → a.solver.counted ≤ b.solver.counted → a.raised ≤ b.raised → KeepsSettings a.solver b.solver → Tells [] [] a b
+tells_none a b counted later settings = record { right = tt; counted = omega arith; raised = omega arith; later = later; settings = settings }
 
 -- two parts that tell of their questions, one after the other
 pub tells_then : (qs ps : List Question) (rs ss : List Report) (a b c : World) → Tells qs rs a b → Tells ps ss b c → Tells (qs ++ ps) (rs ++ ss) a c
@@ -57,7 +61,8 @@ tells_then qs ps rs ss a b c p q =
     record {
       right = right-append a.solver.max_conflicts qs ps rs ss p.right (subst (λ (limit : Option ℕ). AreRight limit ps ss) p.settings.max_conflicts q.right);
       counted = subst (λ (n : ℕ). RoseBy n a.solver.counted c.solver.counted) (sym (conflicts_of_all-append rs ss)) (rose_then _ _ a.solver.counted b.solver.counted c.solver.counted p.counted q.counted);
-      unasked = q.unasked ∙ p.unasked;
+      raised = subst (λ (n : ℕ). RoseBy n a.raised c.raised) (sym (raises_of_all-append rs ss)) (rose_then _ _ a.raised b.raised c.raised p.raised q.raised);
+      later = omega (arith, p.later, q.later);
       settings = settings_then a.solver b.solver c.solver p.settings q.settings;
     }
 
@@ -65,7 +70,7 @@ tells_then qs ps rs ss a b c p q =
 pub carries_none : (a : World) → Carries [] a a
 carries_none a = record {
   reports = [];
-  tells = tells_none a a (omega arith) refl (record { limits = refl; max_conflicts = refl });
+  tells = tells_none a a (omega arith) (omega arith) (record { limits = refl; max_conflicts = refl });
   written = Appends-nil a.sink.bytes;
   kept = refl;
   problem = refl;
@@ -134,14 +139,14 @@ stops_more h qs ps a b s =
     }
 
 -- memory ran out before anything was asked
-pub stops_here : (qs : List Question) (a b : World) → a.solver.counted ≤ b.solver.counted → b.raised ≡ a.raised → KeepsSettings a.solver b.solver → b.sink ≡ a.sink → StopsAmong Memory qs a b
-stops_here qs a b counted quiet settings same =
+pub stops_here : (qs : List Question) (a b : World) → a.solver.counted ≤ b.solver.counted → a.raised ≤ b.raised → KeepsSettings a.solver b.solver → b.sink ≡ a.sink → StopsAmong Memory qs a b
+stops_here qs a b counted later settings same =
     record {
       answered = [];
       rest = qs;
       all = refl;
       reports = [];
-      tells = tells_none a b counted quiet settings;
+      tells = tells_none a b counted later settings;
       text = [];
       cut = refl;
       written = subst (λ (x : Port). Appends a.sink.bytes x.bytes []) (sym same) (Appends-nil a.sink.bytes);

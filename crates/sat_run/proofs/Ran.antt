@@ -1,17 +1,18 @@
 -- What a run comes to.
-use Rattle.std.proofs.Common.{◌≡◌, ◌≢◌, ◌⊎◌, ℕ, ◌+◌, ◌<◌, ◌≤◌, List, [], ◌∷◌, ◌++◌, Some, None, refl, sym, ap, ◌∙◌, subst, inl, inr, append-nil, arith}
+use Rattle.std.proofs.Common.{◌≡◌, ◌≢◌, ◌⊎◌, ℕ, zero, suc, ◌+◌, ◌<◌, ◌≤◌, List, [], ◌∷◌, ◌++◌, Some, None, refl, sym, ap, ◌∙◌, subst, inl, inr, append-nil, arith}
 use Rattle.std.specs.declared.option.Option.{Option}
 use Rattle.std.specs.Option.{ForSome}
 use Rattle.std.specs.Io.KnownBytes.{Consumes, IsAtEnd}
 use Rattle.std.proofs.lemmas.Bool.{true≢false}
 use Rattle.sat_lits.specs.Limits.{LimitNumbers}
+use Rattle.sat_ports.specs.Causes.{Rose, RoseBy}
 use Rattle.sat_lits.specs.Conflicts.{own_count, enough}
 use Rattle.sat_lits.specs.declared.verdict.Verdict.TheVariants as verdict
 use Rattle.sat_api.specs.Laws.{makes_true-StandAt}
 use Rattle.dimacs_text.specs.Grammar.{Reading, reading_of}
 use Rattle.dimacs_text.specs.Lists.{Ended}
 use Rattle.sat_run.specs.Questions.{Question, questions_of}
-use Rattle.sat_run.specs.Reports.{IsRightReport, IsDecided, AreRight, AreDecided, status_of}
+use Rattle.sat_run.specs.Reports.{IsRightReport, IsDecided, AreRight, AreDecided, raises_of, raises_of_all, status_of}
 use Rattle.sat_run.specs.Words.{options_of, input_of}
 use Rattle.sat_run.specs.Writing.{Port}
 use Rattle.sat_run.specs.Progress.{limits_of, ReadsNoMore}
@@ -54,18 +55,27 @@ not_refused words options e f = let g : Some options ≡ None = sym e ∙ f in c
 too_few : (m n : ℕ) → m < n → n ≤ m → ⊥
 too_few m n h k = omega arith
 
--- where the limit is enough, a right report decides
-decided_one : (given : Option ℕ) (q : Question) (r : Report) → IsRightReport given q r → ForSome given (λ m. enough (own_count q.problem) ≤ m) → IsDecided q r
-decided_one given q (report.Verdict (verdict.Sat values)) right leaves = (values, right.0, right.1)
-decided_one given q (report.Verdict (verdict.Unsat failed)) right leaves =
-    λ (values, model, made). true≢false (sym (makes_true-StandAt values q.assumptions right.positions failed right.places made) ∙ right.contradict values model)
-decided_one given q (report.Limit counts) right leaves = too_few right.limit (enough (own_count q.problem)) right.few (leaves right.limit right.is_given)
+-- where the alarm was not raised, no report tells of a raise
+no_raises : (count before now : ℕ) → RoseBy count before now → (Rose before now → ⊥) → count ≡ 0
+no_raises zero before now rose quiet = refl
+no_raises (suc count) before now rose quiet = absurd (quiet (omega (arith, rose)))
 
-all_decided : (given : Option ℕ) (qs : List Question) (rs : List Report) → AreRight given qs rs → LeavesEnough given qs → AreDecided qs rs
-all_decided given [] [] right leaves = tt
-all_decided given [] (r ∷ rs) right leaves = absurd right
-all_decided given (q ∷ qs) [] right leaves = absurd right
-all_decided given (q ∷ qs) (r ∷ rs) right leaves = (decided_one given q r right.0 (λ m e. (leaves m e).0), all_decided given qs rs right.1 (λ m e. (leaves m e).1))
+-- where the limit is enough, a right report that tells of no raise decides
+decided_one : (given : Option ℕ) (q : Question) (r : Report) → IsRightReport given q r → ForSome given (λ m. enough (own_count q.problem) ≤ m) → raises_of r ≡ 0 → IsDecided q r
+decided_one given q (report.Verdict (verdict.Sat values)) right leaves none = (values, right.0, right.1)
+decided_one given q (report.Verdict (verdict.Unsat failed)) right leaves none =
+    λ (values, model, made). true≢false (sym (makes_true-StandAt values q.assumptions right.positions failed right.places made) ∙ right.contradict values model)
+decided_one given q report.Alarm right leaves none = absurd (omega (arith, none))
+decided_one given q (report.Limit counts) right leaves none = too_few right.limit (enough (own_count q.problem)) right.few (leaves right.limit right.is_given)
+
+all_decided : (given : Option ℕ) (qs : List Question) (rs : List Report) → AreRight given qs rs → LeavesEnough given qs → raises_of_all rs ≡ 0 → AreDecided qs rs
+all_decided given [] [] right leaves none = tt
+all_decided given [] (r ∷ rs) right leaves none = absurd right
+all_decided given (q ∷ qs) [] right leaves none = absurd right
+all_decided given (q ∷ qs) (r ∷ rs) right leaves none = (
+  decided_one given q r right.0 (λ m e. (leaves m e).0) (omega (arith, none)),
+  all_decided given qs rs right.1 (λ m e. (leaves m e).1) (omega (arith, none)),
+)
 
 -- the last of decided reports is a verdict
 last_decided : (qs : List Question) (rs : List Report) (last : Report) → AreDecided qs (rs ++ last ∷ []) → (q : Question) × IsDecided q last
@@ -78,10 +88,12 @@ decided_status : (q : Question) (last : Report) (status : ℕ) → status ≡ st
 decided_status q (report.Verdict (verdict.Sat values)) status e d = inl e
 decided_status q (report.Verdict (verdict.Unsat failed)) status e d = inr (inl e)
 decided_status q (report.Limit counts) status e d = absurd d
+decided_status q report.Alarm status e d = absurd d
 
 report_status : (r : Report) (status : ℕ) → status ≡ status_of r → IsAmong (10 ∷ 15 ∷ 20 ∷ []) status
 report_status (report.Verdict (verdict.Sat values)) status e = inl e
 report_status (report.Limit counts) status e = inr (inl e)
+report_status report.Alarm status e = inr (inl e)
 report_status (report.Verdict (verdict.Unsat failed)) status e = inr (inr (inl e))
 
 -- no report has a low status
@@ -117,13 +129,13 @@ answered_run words options last status before now old new taken e h little =
       writes_kept = λ _. h.answered.kept;
       out_of_memory = λ other f text told five. absurd (not_low status 5 high (omega arith) five);
       reads_little = λ other f. subst (λ (o : Options). ReadsNoMore (most_read o) before.bytes now.bytes) (same other f) little;
-      not_asked = tells.unasked;
-      complete = λ other f text told ended no_read no_write leaves. inr (
+      later = tells.later;
+      complete = λ other f text told ended no_read no_write no_raise leaves. inr (
           let P = λ (o : Options). LeavesEnough o.max_conflicts (questions_of (reading_with o text)) in
           let whole = whole_reading (input_of options) last before now (set_world options old) new text told h in
           let left : LeavesEnough options.max_conflicts (questions_of (reading_of (limits_of (input_of options)) h.text)) =
           subst (λ (r : Reading). LeavesEnough options.max_conflicts (questions_of r)) whole (subst P (sym (same other f)) leaves) in
-          let decided = all_decided options.max_conflicts (questions_of (reading_of (limits_of (input_of options)) h.text)) (h.answered.earlier ++ last ∷ []) tells.right left in
+          let decided = all_decided options.max_conflicts (questions_of (reading_of (limits_of (input_of options)) h.text)) (h.answered.earlier ++ last ∷ []) tells.right left (no_raises _ old.raised new.raised tells.raised no_raise) in
           let one = last_decided (questions_of (reading_of (limits_of (input_of options)) h.text)) h.answered.earlier last decided in (
             decided_status one.0 last status e one.1,
             subst (λ (o : Options). DecidesAll (questions_of (reading_with o text)) old new) (same other f)
@@ -222,8 +234,8 @@ stopped_run words options s status before now old new taken e h little = subst (
   out_of_memory = λ other f text told five. subst (λ (o : Options). StopsRight stop.Memory (reading_with o text) (set_world o old) new) (same other f)
       (right_at (input_of options) s stop.Memory before now (set_world options old) new text (is_memory s five) (λ x. cc) told h);
   reads_little = λ other f. subst (λ (o : Options). ReadsNoMore (most_read o) before.bytes now.bytes) (same other f) little;
-  not_asked = h.unasked;
-  complete = λ other f text told ended no_read no_write leaves. inl (only_five s
+  later = h.later;
+  complete = λ other f text told ended no_read no_write no_raise leaves. inl (only_five s
       (λ two. refused_end (reading_with other text) (set_world other old) new (refusal other f text told two) ended)
       (λ three. no_read (subst (λ (x : Stop). IsSourceAt x before now) (is_read s three) h.source))
       (λ four. no_write (subst (λ (x : Stop). IsSinkAt x old.sink new.sink) (is_write s four) h.sink)));
@@ -258,8 +270,8 @@ ran_not words before old e =
       writes_kept = λ _. refl;
       out_of_memory = λ o f text told five. absurd (not_refused words o f e);
       reads_little = λ o f. absurd (not_refused words o f e);
-      not_asked = refl;
-      complete = λ o f text told ended no_read no_write leaves. absurd (not_refused words o f e);
+      later = omega arith;
+      complete = λ o f text told ended no_read no_write no_raise leaves. absurd (not_refused words o f e);
     }
 
 -- the same, from the solver on whose limit the words set

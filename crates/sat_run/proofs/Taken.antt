@@ -102,16 +102,16 @@ answers_end input taken reader report before between now start a b count into r 
 -- what a stop leaves of the alarm, the settings and the sink
 record Leaves (why : Stop) (a b : World) : Type 0 where
   pub sink : IsSinkAt why a.sink b.sink
-  pub unasked : b.raised ≡ a.raised
+  pub later : a.raised ≤ b.raised
   pub settings : KeepsSettings a.solver b.solver
   pub other : why ≢ stop.Read
 
 leaves : (why : Stop) (r : Reading) (a b : World) → StopsRight why r a b → Leaves why a b
-leaves stop.Refused r a b s = record { sink = s.kept; unasked = s.tells.unasked; settings = s.tells.settings; other = λ e. cc }
+leaves stop.Refused r a b s = record { sink = s.kept; later = s.tells.later; settings = s.tells.settings; other = λ e. cc }
 leaves stop.Read r a b s = absurd s
-leaves stop.Write r a b (inl s) = record { sink = s.cause; unasked = s.tells.unasked; settings = s.tells.settings; other = λ e. cc }
-leaves stop.Write r a b (inr s) = record { sink = s.fault; unasked = s.tells.unasked; settings = s.tells.settings; other = λ e. cc }
-leaves stop.Memory r a b s = record { sink = s.cause; unasked = s.tells.unasked; settings = s.tells.settings; other = λ e. cc }
+leaves stop.Write r a b (inl s) = record { sink = s.cause; later = s.tells.later; settings = s.tells.settings; other = λ e. cc }
+leaves stop.Write r a b (inr s) = record { sink = s.fault; later = s.tells.later; settings = s.tells.settings; other = λ e. cc }
+leaves stop.Memory r a b s = record { sink = s.cause; later = s.tells.later; settings = s.tells.settings; other = λ e. cc }
 
 -- a source that did not fail, where no read stopped the run
 kept_source : (why : Stop) (before now : Port) → why ≢ stop.Read → now.faults ≡ before.faults → IsSourceAt why before now
@@ -132,7 +132,7 @@ stops_text input why before now text start b c kept s all =
       decided = λ e. absurd (l.other e);
       source = kept_source why before now l.other kept;
       sink = l.sink;
-      unasked = l.unasked;
+      later = l.later;
       settings = l.settings;
     }
 
@@ -165,7 +165,7 @@ stops_read input taken reader before between now start a r k rose =
       decided = λ _. subst (λ (cs : List Command). Carries cs start a) (sym r.carried.read.decides) r.carried.carries;
       source = subst (λ (n : ℕ). Rose n now.faults) r.kept rose;
       sink = r.carried.carries.kept;
-      unasked = r.carried.carries.tells.unasked;
+      later = r.carried.carries.tells.later;
       settings = r.carried.carries.tells.settings;
     }
 

@@ -1,5 +1,5 @@
 -- The report of what a solver tells.
-use Rattle.std.proofs.Common.{◌≡◌, ◌≤◌, Bool, true, false, not, List, [], ◌∷◌, map, Some, refl, sym, ap, ap₂, ◌∙◌, subst, arith}
+use Rattle.std.proofs.Common.{◌≡◌, ◌≤◌, ℕ, Bool, true, false, not, List, [], ◌∷◌, map, Some, refl, sym, ap, ap₂, ◌∙◌, subst, arith}
 use Rattle.std.specs.declared.option.Option.{Option}
 use Rattle.sat_lits.specs.declared.literal.Lit.{Lit}
 use Rattle.sat_lits.specs.declared.verdict.Verdict.TheVariants as verdict
@@ -27,15 +27,16 @@ same_some : {X : Type 0} (x y : X) (o : Option X) → o ≡ Some x → o ≡ Som
 same_some x y o e f = cc
 
 -- the literals of a conflict, turned back, are the failed assumptions
-pub conflict_report : (answer : Answer) (before now : SolverState) (assumptions lits turned : List Lit) → answer ≡ Unsat → before.counted ≤ now.counted → Answers before now assumptions answer → now.conflict ≡ Some lits
-    → turned ≡ map negated lits → IsReportOn (question before.problem assumptions) before now (report.Verdict (verdict.Unsat turned))
-conflict_report Sat before now assumptions lits turned e counted told conflict back = absurd cc
-conflict_report (Unknown cause) before now assumptions lits turned e counted told conflict back = absurd cc
-conflict_report Unsat before now assumptions lits turned e counted told conflict back =
+pub conflict_report : (answer : Answer) (before now : SolverState) (assumptions lits turned : List Lit) (raised_before raised_now : ℕ) → answer ≡ Unsat → before.counted ≤ now.counted → raised_before ≤ raised_now
+    → Answers before now assumptions raised_before raised_now answer → now.conflict ≡ Some lits → turned ≡ map negated lits → IsReportOn (question before.problem assumptions) before now raised_before raised_now (report.Verdict (verdict.Unsat turned))
+conflict_report Sat before now assumptions lits turned raised_before raised_now e counted later told conflict back = absurd cc
+conflict_report (Unknown cause) before now assumptions lits turned raised_before raised_now e counted later told conflict back = absurd cc
+conflict_report Unsat before now assumptions lits turned raised_before raised_now e counted later told conflict back =
     let same : lits ≡ map negated told.failed = same_some lits (map negated told.failed) now.conflict conflict told.conflict in
     let failed : told.failed ≡ turned = sym (negated_twice told.failed) ∙ ap (map negated) (sym same) ∙ sym back in
     record {
       right = subst (λ (ls : List Lit). IsRight before.problem assumptions (verdict.Unsat ls)) failed told.right;
       told = told.conflict ∙ ap (λ (ls : List Lit). Some (map negated ls)) failed;
       counted = omega arith;
+      raised = omega arith;
     }

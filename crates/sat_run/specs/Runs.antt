@@ -90,7 +90,7 @@ pub record StopsText (input : ℕ) (why : Stop) (source_before source_now : Port
   pub decided : why ≡ stop.Read → Carries (decided_of (limits_of input) text) old new
   pub source : IsSourceAt why source_before source_now
   pub sink : IsSinkAt why old.sink new.sink
-  pub unasked : new.raised ≡ old.raised
+  pub later : old.raised ≤ new.raised
   pub settings : KeepsSettings old.solver new.solver
 
 -- so much of the source was read, and the questions were answered that it decides, before a read failed
@@ -160,10 +160,10 @@ pub record RunsRight (words : List (List ℕ)) (status : ℕ) (source_before sou
   -- memory ran out: whole right blocks were written
   pub out_of_memory : (options : Options) → options_of words ≡ Some options → (text : List ℕ) → source_before.bytes ≡ Some text → status ≡ 5
       → StopsRight stop.Memory (reading_with options text) (set_world options old) new
-  -- whatever the status, no more is read than a text may have, but for the rest of a piece, and the alarm is not asked
+  -- whatever the status, no more is read than a text may have, but for the rest of a piece, and the alarm's count does not fall
   pub reads_little : (options : Options) → options_of words ≡ Some options → ReadsNoMore (most_read options) source_before.bytes source_now.bytes
-  pub not_asked : new.raised ≡ old.raised
-  -- where nothing stands in the way, every question is decided
+  pub later : old.raised ≤ new.raised
+  -- where no failure, no raise of the alarm and no limit stands in the way, every question is decided
   pub complete : (options : Options) → options_of words ≡ Some options → (text : List ℕ) → source_before.bytes ≡ Some text → (reading_with options text).end ≡ Ended
-      → (Rose source_before.faults source_now.faults → ⊥) → (Rose old.sink.faults new.sink.faults → ⊥) → LeavesEnough options.max_conflicts (questions_of (reading_with options text))
+      → (Rose source_before.faults source_now.faults → ⊥) → (Rose old.sink.faults new.sink.faults → ⊥) → (Rose old.raised new.raised → ⊥) → LeavesEnough options.max_conflicts (questions_of (reading_with options text))
       → (status ≡ 5) ⊎ (IsAmong (10 ∷ 20 ∷ []) status × DecidesAll (questions_of (reading_with options text)) old new)

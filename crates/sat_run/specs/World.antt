@@ -1,5 +1,5 @@
 -- What a part of a run does to the solver, the alarm and the sink.
-use Rattle.std.specs.Prelude.{◌≡◌, ℕ, List, [], ◌∷◌, ◌++◌, take}
+use Rattle.std.specs.Prelude.{◌≡◌, ℕ, ◌≤◌, List, [], ◌∷◌, ◌++◌, take}
 use Rattle.std.specs.declared.option.Option.{Option}
 use Rattle.std.specs.Io.KnownBytes.{Appends}
 use Rattle.sat_ports.specs.Causes.{Rose, RoseBy}
@@ -8,7 +8,7 @@ use Rattle.sat_api.specs.State.{SolverState}
 use Rattle.dimacs_text.specs.declared.command.Command.{Command}
 use Rattle.sat_run.specs.Writing.{Port, port}
 use Rattle.sat_run.specs.Questions.{Question, questions_from, after_all}
-use Rattle.sat_run.specs.Reports.{AreRight, IsTold, conflicts_of_all, text_of_report, blocks_text}
+use Rattle.sat_run.specs.Reports.{AreRight, IsTold, conflicts_of_all, raises_of_all, text_of_report, blocks_text}
 use Rattle.sat_run.specs.declared.report.Report.{Report}
 use Rattle.sat_run.specs.declared.failures.Halt.{Halt}
 use Rattle.sat_run.specs.declared.failures.Halt.TheVariants.{Memory, Write}
@@ -27,11 +27,12 @@ pub record KeepsSettings (old new : SolverState) : Type 0 where
   pub limits : new.limits ≡ old.limits
   pub max_conflicts : new.max_conflicts ≡ old.max_conflicts
 
--- these reports are right for these questions, the solver counted their conflicts, and the alarm was not asked
+-- these reports are right for these questions, the solver counted their conflicts, and the alarm was raised at least as often as they tell
 pub record Tells (questions : List Question) (reports : List Report) (old new : World) : Type 0 where
   pub right : AreRight old.solver.max_conflicts questions reports
   pub counted : RoseBy (conflicts_of_all reports) old.solver.counted new.solver.counted
-  pub unasked : new.raised ≡ old.raised
+  pub raised : RoseBy (raises_of_all reports) old.raised new.raised
+  pub later : old.raised ≤ new.raised
   pub settings : KeepsSettings old.solver new.solver
 
 -- the commands were carried out, and their questions answered by whole blocks

@@ -24,9 +24,9 @@ fn ask<R: Threads + Sync, A: Alarm + Send>(
 ) -> Result<Answer, NoMemory>
     requires few { length assumptions.now ≤ 2 ^ 31 }
     requires known { names_known solver.old.problem.vars (Clause assumptions.now) ≡ true }
-    ensures answers { IfOk result (Answers solver.old solver.new assumptions.now) }
+    ensures answers { IfOk result (Answers solver.old solver.new assumptions.now (A.raises alarm.old) (A.raises alarm.new)) }
     ensures keeps { Keeps solver.old solver.new }
-    ensures raises { A.raises alarm.new ≡ A.raises alarm.old }
+    ensures later { A.raises alarm.old ≤ A.raises alarm.new }
 {
     match solver.solve(rt, assumptions, alarm) {
         Ok(answer) => Ok(answer),

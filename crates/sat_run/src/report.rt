@@ -1,11 +1,11 @@
-ghost use Rattle.std.specs.Prelude.{◌≡◌, ◌≤◌, List, IfOk};
+ghost use Rattle.std.specs.Prelude.{◌≡◌, ◌≤◌, ℕ, List, IfOk};
 ghost use Rattle.sat_lits.specs.declared.literal.Lit.{Lit};
 ghost use Rattle.sat_api.specs.State.{SolverState};
 ghost use Rattle.sat_api.specs.Answers.{Answers};
 ghost use Rattle.sat_run.specs.Questions.{question};
 ghost use Rattle.sat_run.specs.Reports.{IsReportOn, status_of};
 
-use crate::status::{LIMIT_SPENT, SATISFIABLE, UNSATISFIABLE};
+use crate::status::{INDETERMINATE, SATISFIABLE, UNSATISFIABLE};
 use sat_api::{Answer, Cause, SatSolver};
 use sat_lits::{List, NoMemory, Verdict};
 use std::alloc::Global;
@@ -17,6 +17,8 @@ pub enum Report {
     Verdict(Verdict),
     /// The conflict limit was spent. There is a count for each solver.
     Limit(List<u64>),
+    /// The alarm asked for a stop.
+    Alarm,
 }
 
 impl Report {
@@ -27,18 +29,20 @@ impl Report {
         match self {
             Report::Verdict(Verdict::Sat(_)) => SATISFIABLE,
             Report::Verdict(Verdict::Unsat(_)) => UNSATISFIABLE,
-            Report::Limit(_) => LIMIT_SPENT,
+            Report::Limit(_) | Report::Alarm => INDETERMINATE,
         }
     }
 }
 
 /// The report of this answer, which the solver gave last.
 pub fn report_of(alloc: Global, answer: Answer, solver: &SatSolver) -> Result<Report, NoMemory>
-    requires { (before : SolverState) × (assumptions : List Lit) × Answers before solver.now assumptions answer }
-    ensures { (before : SolverState) (assumptions : List Lit)
+    requires { (before : SolverState) × (assumptions : List Lit) × (raised_before : ℕ) × (raised_now : ℕ)
+        × Answers before solver.now assumptions raised_before raised_now answer }
+    ensures { (before : SolverState) (assumptions : List Lit) (raised_before raised_now : ℕ)
         → before.counted ≤ solver.now.counted
-        → Answers before solver.now assumptions answer
-        → IfOk result (IsReportOn (question before.problem assumptions) before solver.now) }
+        → raised_before ≤ raised_now
+        → Answers before solver.now assumptions raised_before raised_now answer
+        → IfOk result (IsReportOn (question before.problem assumptions) before solver.now raised_before raised_now) }
 {
     match answer {
         Answer::Sat => {
@@ -52,5 +56,6 @@ pub fn report_of(alloc: Global, answer: Answer, solver: &SatSolver) -> Result<Re
             Ok(Report::Verdict(Verdict::Unsat(failed)))
         }
         Answer::Unknown(Cause::Limit { counts }) => Ok(Report::Limit(counts)),
+        Answer::Unknown(Cause::Alarm) => Ok(Report::Alarm),
     }
 }

@@ -70,10 +70,10 @@ pub fn serve<R: Threads + Sync, S: Source, K: Sink, A: Alarm + Send>(
 /// the formula, as a DIMACS text with questions. Its clauses and parities are given to the solver.
 /// Each question, and the one at the end that has no assumptions, is asked when it is read, and its
 /// answer is written to the sink as one block, before anything further is read: a verdict, or that
-/// the limit was spent.
+/// the limit was spent or the alarm raised.
 ///
 /// The status is 10 where the last question's answer is a model, 20 where there is none, and 15
-/// where the limit was spent. It is 1 exactly where the words are not taken, and then nothing is
+/// where neither is known. It is 1 exactly where the words are not taken, and then nothing is
 /// read or written; 2 where the text is refused, which is written behind the blocks of the
 /// questions before; 3 where a read failed and 4 where a write failed; 5 for want of memory. Before
 /// a status of 3 or 5 whole blocks are written, and before 4 a front of what is to be written.

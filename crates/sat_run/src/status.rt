@@ -21,8 +21,8 @@ pub const NO_WORDS: u8 = 6;
 /// The formula is satisfiable.
 pub const SATISFIABLE: u8 = 10;
 
-/// The conflict limit was spent.
-pub const LIMIT_SPENT: u8 = 15;
+/// It is not known whether the formula is satisfiable.
+pub const INDETERMINATE: u8 = 15;
 
 /// The formula is not satisfiable.
 pub const UNSATISFIABLE: u8 = 20;

@@ -8,7 +8,7 @@ ghost use Rattle.sat_run.specs.Reports.{text_of_report};
 
 use crate::failures::Halt;
 use crate::report::Report;
-use dimacs_text::{Refusal, print_limit, print_refusal, print_verdict};
+use dimacs_text::{Refusal, print_alarm, print_limit, print_refusal, print_verdict};
 use sat_lits::{List, NoMemory};
 use sat_ports::{Failed, Sink};
 use std::alloc::Global;
@@ -32,6 +32,7 @@ fn print_report(to: &mut List<u8>, report: &Report) -> Result<(), NoMemory>
     match report {
         Report::Verdict(verdict) => print_verdict(to, verdict),
         Report::Limit(counts) => print_limit(to, counts.as_slice()),
+        Report::Alarm => print_alarm(to),
     }
 }
 

@@ -2,12 +2,12 @@ use Rattle.std.proofs.Common.{◌≡◌, [], ◌∷◌, List, refl, sym, ap, ◌
 use Rattle.std.proofs.lemmas.Result.{err_from_is_err_and}
 use Rattle.sat_lits.specs.declared.literal.Lit.{Lit}
 use Rattle.sat_lits.specs.declared.literal.Var.{Var}
-use Rattle.dimacs_text.specs.declared.command.Command.TheVariants.{Clause, Parity}
+use Rattle.dimacs_text.specs.declared.command.Command.TheVariants.{Clause, Parity, Grow}
 use Rattle.sat_run.specs.Questions.{questions_from}
 use Rattle.sat_api.specs.State.{SolverState}
 use Rattle.sat_run.specs.World.{world}
 use Rattle.sat_run.specs.declared.failures.Halt.TheVariants.{Memory}
-use Rattle.sat_run.proofs.Made.{carries_named, stops_quiet, named_halt}
+use Rattle.sat_run.proofs.Made.{carries_named, grown, stops_quiet, named_halt}
 use Rattle.sat_run.proofs.carry.carry_out.Goals as goal
 
 pub returns-in_err-take_clause-in-Clause-clause-err : goal.returns-in_err-take_clause-in-Clause-clause-err
@@ -35,3 +35,9 @@ returns-in_ok-take_parity-in-Parity-clause-ok g c =
     let made = λ (solver : SolverState). world solver (g.A.Alarm.raises c.args.alarm.now) (g.K.Sink.written c.args.sink.now) (g.K.Sink.faults c.args.sink.now) in
     let is : c.args.command ≡ Parity c.as_slice-in-Parity.result.now c.in-Parity.rhs = c.in-Parity.is ∙ ap (λ (vars : List Var). Parity vars c.in-Parity.rhs) (sym c.as_slice-in-Parity.ensures) in
     carries_named c.args.command (Parity c.as_slice-in-Parity.result.now c.in-Parity.rhs) (made c.args.solver.now) (made c.take_parity.new.solver) is refl c.in_ok-take_parity-in-Parity.ensures.ok c.take_parity.ensures.kept refl refl
+
+pub returns-in-Grow-clause-ok : goal.returns-in-Grow-clause-ok
+returns-in-Grow-clause-ok g c =
+    let made = λ (solver : SolverState). world solver (g.A.Alarm.raises c.args.alarm.now) (g.K.Sink.written c.args.sink.now) (g.K.Sink.faults c.args.sink.now) in
+    carries_named c.args.command (Grow c.in-Grow.to) (made c.args.solver.now) (made c.make_room.new.solver) c.in-Grow.is refl
+    (grown c.args.solver.now.problem c.make_room.new.solver.problem (Grow c.in-Grow.to) c.in-Grow.to refl refl c.make_room.ensures.vars) c.make_room.ensures.kept refl refl

@@ -6,7 +6,7 @@ use Rattle.sat_run.proofs.Verdicts.{conflict_report}
 use Rattle.sat_run.proofs.report.report_of.Goals as goal
 
 pub returns-in_ok-failed-in-Unsat : goal.returns-in_ok-failed-in-Unsat
-returns-in_ok-failed-in-Unsat c = λ before assumptions counted told.
-    conflict_report c.args.answer before c.args.solver.now assumptions c.unwrap-conflict.result.now c.negate.new.self c.in-Unsat.is counted told
+returns-in_ok-failed-in-Unsat c = λ before assumptions raised_before raised_now counted later told.
+    conflict_report c.args.answer before c.args.solver.now assumptions c.unwrap-conflict.result.now c.negate.new.self raised_before raised_now c.in-Unsat.is counted later told
     (sym c.get_conflict.ensures.value ∙ ap option_copied c.unwrap-conflict.ensures)
     (c.negate.ensures ∙ ap (λ (ls : List Lit). map negated ls) c.in_ok-failed-in-Unsat.ensures)
