@@ -1,25 +1,20 @@
 -- What words say, one by one.
-use Rattle.std.proofs.Common.{◌≡◌, ◌↔◌, ℕ, suc, zero, ◌+◌, ◌<◌, ◌≤◌, ◌^◌, Bool, true, false, ◌&&◌, List, [], ◌∷◌, length, get_or, map, drop, codes, Result, Ok, Err, Some, None, nat_lt, nat_le, if◌then◌else◌, refl, sym, ap, ◌∙◌, arith, nat_eq, Bor, drop-cons}
+use Rattle.std.proofs.Common.{◌≡◌, ◌↔◌, ℕ, suc, zero, ◌<◌, ◌≤◌, ◌^◌, Bool, true, false, ◌&&◌, List, [], ◌∷◌, length, get_or, drop, codes, Result, Ok, Err, Some, None, nat_lt, nat_le, if◌then◌else◌, refl, sym, ap, subst, ◌∙◌, arith, nat_eq, IfSome}
 use Rattle.std.specs.declared.option.Option.{Option}
 use Rattle.std.specs.Char.{is_ascii_digit}
-use Rattle.std.specs.Option.{option_and_then, ok_or}
+use Rattle.std.specs.List.{starts_with}
+use Rattle.std.specs.Option.{option_and_then, option_map}
 use Rattle.std.specs.Result.{result_ok}
-use Rattle.std.specs.Str.{bytes_eq, all_ascii_digits}
+use Rattle.std.specs.Str.{all_ascii_digits}
 use Rattle.std.specs.Str.Parse.{digits_value, ParsesUnsigned}
-use Rattle.std.proofs.lemmas.Bool.{and_parts, and_from, lt-ltb, le-leb, ltb-true, true≢false}
+use Rattle.std.proofs.lemmas.Bool.{and_parts, and_from, lt-ltb, le-leb, ltb-true, leb-true, true≢false}
 use Rattle.std.proofs.lemmas.Str.Parse.{IsNumeralModel, numerals_by_value, tells_all_ascii_digits, parse_digits}
-use Rattle.std.proofs.lemmas.Slice.Eq.{bytes_eq-Decides}
-use Rattle.sat_run.specs.Words.{is_number, number_of, number_behind, with_limit, options_after}
+use Rattle.sat_lits.specs.Limits.{standard_limits}
+use Rattle.sat_run.specs.Words.{is_number, number_of, number_behind, setting_of, with_limit, with_input, with_number, with_word, settled, chosen_with, options_after, no_options, options_of, input_of}
 use Rattle.sat_run.specs.declared.words.Options.{Options}
-
--- where a call answers Ok of what may be there, it is there, and where it answers an error it is not
-pub there_at_ok : {T : Type 0} (o : Option T) (e : ℕ) (r : Result T ℕ) (x : T) → r ≡ ok_or o e → r ≡ Ok x → o ≡ Some x
-there_at_ok None e r x value ok = absurd cc
-there_at_ok (Some y) e r x value ok = cc
-
-pub none_at_err : {T : Type 0} (o : Option T) (e : ℕ) (r : Result T ℕ) (y : ℕ) → r ≡ ok_or o e → r ≡ Err y → o ≡ None
-none_at_err None e r y value err = refl
-none_at_err (Some x) e r y value err = absurd cc
+use Rattle.sat_run.specs.declared.words.Setting.{Setting}
+use Rattle.sat_run.specs.declared.words.Setting.TheVariants.{MaxConflicts, MaxInput}
+use Rattle.sat_run.specs.declared.words.Chosen.{Chosen}
 
 all_where_each : (ds : List ℕ) → ((k : ℕ) → k < length ds → is_ascii_digit (get_or ds k 0) ≡ true) → all_ascii_digits ds ≡ true
 all_where_each [] h = refl
@@ -69,63 +64,78 @@ number_parsed {E} ds (Err error) all some few h =
     (not_below (digits_value 10 ds) (2 ^ 64) (nat_lt (digits_value 10 ds) (2 ^ 64)) refl (λ l. parse_digits numeral {E = E} 64 ds (Err error) h all (some, l))) in
     sym (ap (λ (b : Bool). if b then Some (digits_value 10 ds) else None) no)
 
--- the words that are left, behind the option's name where it was read
-abbrev pub read_on : Options → Bool → List (List ℕ) → Option Options
-read_on options is_named words = options_after options (if is_named then codes "--maxconfl" ∷ words else words)
+-- a word that begins with no option's name and an equals sign
+pub no_word : (o : Options) (word : List ℕ) → starts_with nat_eq word (codes "--maxconfl=") ≡ false → starts_with nat_eq word (codes "--max-input=") ≡ false → None ≡ with_word o word
+no_word o word e f =
+    sym (ap (λ (b : Bool). if b then option_and_then (with_limit o) (number_behind (codes "--maxconfl=") word) else option_and_then (with_input o) (number_behind (codes "--max-input=") word)) e
+    ∙ ap (λ (b : Bool). option_and_then (with_input o) (if b then number_of (drop (length (codes "--max-input=")) word) else None)) f)
 
-words_at : (words : List (Bor (List ℕ))) (i : ℕ) (d : Bor (List ℕ)) → i < length words → map (λ word. word.now) (drop i words) ≡ (get_or words i d).now ∷ map (λ word. word.now) (drop (i + 1) words)
-words_at words i d h =
-    let e : suc i ≡ i + 1 = omega arith in
-    ap (λ (ws : List (Bor (List ℕ))). map (λ word. word.now) ws) (drop-cons words i d h) ∙ ap (λ (k : ℕ). (get_or words i d).now ∷ map (λ word. word.now) (drop k words)) e
+-- no more bytes of input are allowed than the standard limit says
+abbrev IsStandard : Options → Type 0
+IsStandard options = input_of options ≤ standard_limits.input
 
--- a word more was read
-pub word_more : (o q : Options) (b c : Bool) (i : ℕ) (words : List (Bor (List ℕ))) (d : Bor (List ℕ)) (result : Option Options) → i < length words
-    → read_on o b (map (λ word. word.now) (drop i words)) ≡ result → ((rest : List (List ℕ)) → read_on q c rest ≡ read_on o b ((get_or words i d).now ∷ rest))
-    → read_on q c (map (λ word. word.now) (drop (i + 1) words)) ≡ result
-word_more o q b c i words d result h known moves =
-    moves (map (λ word. word.now) (drop (i + 1) words)) ∙ ap (λ (ws : List (List ℕ)). read_on o b ws) (sym (words_at words i d h)) ∙ known
+then_standard : {X : Type 0} (f : X → Option Options) (x : Option X) → ((y : X) → IfSome (f y) IsStandard) → IfSome (option_and_then f x) IsStandard
+then_standard f None h = tt
+then_standard f (Some y) h = h y
 
--- the number behind the option's name
-pub moves_number : (o p q : Options) (b c : Bool) (word : List ℕ) (number : Option ℕ) → b ≡ true → c ≡ false → q ≡ p → number ≡ number_of word → option_and_then (with_limit o) number ≡ Some p
-    → (rest : List (List ℕ)) → read_on q c rest ≡ read_on o b (word ∷ rest)
-moves_number o p q b c word number was is same n set rest =
-    let G = λ (r : Option Options). option_and_then (λ x. options_after x rest) r in
-    let step : options_after o (codes "--maxconfl" ∷ word ∷ rest) ≡ options_after p rest = ap (λ (m : Option ℕ). G (option_and_then (with_limit o) m)) (sym n) ∙ ap G set in
-    ap (λ (x : Options). read_on x c rest) same ∙ ap (λ (x : Bool). read_on p x rest) is ∙ sym step ∙ ap (λ (x : Bool). read_on o x (word ∷ rest)) (sym was)
+limit_standard : (o : Options) (limit : ℕ) → IsStandard o → IfSome (with_limit o limit) IsStandard
+limit_standard o limit h = go o.max_conflicts
+  where
+    go : (m : Option ℕ) → IfSome (elim m [ None ↦ Some (record o { max_conflicts = Some limit }) | Some earlier ↦ None ]) IsStandard
+    go None = h
+    go (Some earlier) = tt
 
--- the option's name
-pub moves_name : (o q : Options) (b c : Bool) (word : List ℕ) → b ≡ false → c ≡ true → q ≡ o → bytes_eq word (codes "--maxconfl") ≡ true → (rest : List (List ℕ)) → read_on q c rest ≡ read_on o b (word ∷ rest)
-moves_name o q b c word was is same name rest =
-    let e : word ≡ codes "--maxconfl" = (bytes_eq-Decides word (codes "--maxconfl")).0 name in
-    ap (λ (x : Options). read_on x c rest) same ∙ ap (λ (x : Bool). read_on o x rest) is ∙ ap (λ (w : List ℕ). options_after o (w ∷ rest)) (sym e) ∙ ap (λ (x : Bool). read_on o x (word ∷ rest)) (sym was)
+input_standard : (o : Options) (most : ℕ) → IfSome (with_input o most) IsStandard
+input_standard o most = go o.max_input (nat_le most standard_limits.input) refl
+  where
+    go : (m : Option ℕ) (b : Bool) → nat_le most standard_limits.input ≡ b → IfSome (elim m [ None ↦ if b then Some (record o { max_input = Some most }) else None | Some earlier ↦ None ]) IsStandard
+    go None true e = leb-true most standard_limits.input e
+    go None false e = tt
+    go (Some earlier) b e = tt
 
-as_it_is : (r : Option Options) → r ≡ option_and_then (λ p. options_after p []) r
-as_it_is None = refl
-as_it_is (Some o) = refl
+number_standard : (o : Options) (s : Setting) (word : List ℕ) → IsStandard o → IfSome (with_number o s word) IsStandard
+number_standard o MaxConflicts word h = then_standard (with_limit o) (number_of word) (λ n. limit_standard o n h)
+number_standard o MaxInput word h = then_standard (with_input o) (number_of word) (λ n. input_standard o n)
 
--- a word that is not the option's name
-whole_word : (o : Options) (word : List ℕ) (words : List (List ℕ)) → bytes_eq word (codes "--maxconfl") ≡ false
-    → options_after o (word ∷ words) ≡ option_and_then (λ p. options_after p words) (option_and_then (with_limit o) (number_behind (codes "--maxconfl=") word))
-whole_word o word [] e = as_it_is (option_and_then (with_limit o) (number_behind (codes "--maxconfl=") word))
-whole_word o word (next ∷ words) e = ap (λ (b : Bool).
-    if b
-    then option_and_then (λ p. options_after p words) (option_and_then (with_limit o) (number_of next))
-    else option_and_then (λ p. options_after p (next ∷ words)) (option_and_then (with_limit o) (number_behind (codes "--maxconfl=") word))) e
+word_standard : (o : Options) (word : List ℕ) → IsStandard o → IfSome (with_word o word) IsStandard
+word_standard o word h = go (starts_with nat_eq word (codes "--maxconfl="))
+  where
+    go : (b : Bool) → IfSome (if b then option_and_then (with_limit o) (number_behind (codes "--maxconfl=") word) else option_and_then (with_input o) (number_behind (codes "--max-input=") word)) IsStandard
+    go true = then_standard (with_limit o) (number_behind (codes "--maxconfl=") word) (λ n. limit_standard o n h)
+    go false = then_standard (with_input o) (number_behind (codes "--max-input=") word) (λ n. input_standard o n)
 
--- the option and its number in one word
-pub moves_whole : (o p q : Options) (b c : Bool) (word : List ℕ) (number : Option ℕ) → b ≡ false → c ≡ b → q ≡ p → bytes_eq word (codes "--maxconfl") ≡ false → number ≡ number_behind (codes "--maxconfl=") word
-    → option_and_then (with_limit o) number ≡ Some p → (rest : List (List ℕ)) → read_on q c rest ≡ read_on o b (word ∷ rest)
-moves_whole o p q b c word number was is same other n set rest =
-    let G = λ (r : Option Options). option_and_then (λ x. options_after x rest) r in
-    let step : options_after o (word ∷ rest) ≡ options_after p rest = whole_word o word rest other ∙ ap (λ (m : Option ℕ). G (option_and_then (with_limit o) m)) (sym n) ∙ ap G set in
-    ap (λ (x : Options). read_on x c rest) same ∙ ap (λ (x : Bool). read_on p x rest) (is ∙ was) ∙ sym step ∙ ap (λ (x : Bool). read_on o x (word ∷ rest)) (sym was)
+settled_standard : (x : Option Options) → IfSome x IsStandard → IfSome (option_map settled x) (λ c. IsStandard c.options)
+settled_standard None h = tt
+settled_standard (Some o) h = h
 
--- a word that is neither is not taken
-pub stops_whole : (o : Options) (b : Bool) (i : ℕ) (words : List (Bor (List ℕ))) (d : Bor (List ℕ)) (result : Option Options) (number : Option ℕ) → i < length words
-    → read_on o b (map (λ word. word.now) (drop i words)) ≡ result → b ≡ false → bytes_eq (get_or words i d).now (codes "--maxconfl") ≡ false
-    → number ≡ number_behind (codes "--maxconfl=") (get_or words i d).now → option_and_then (with_limit o) number ≡ None → None ≡ result
-stops_whole o b i words d result number h known was other n none =
-    let rest = map (λ word. word.now) (drop (i + 1) words) in
-    let G = λ (r : Option Options). option_and_then (λ x. options_after x rest) r in
-    sym (ap (λ (m : Option ℕ). G (option_and_then (with_limit o) m)) (sym n) ∙ ap G none) ∙ sym (whole_word o (get_or words i d).now rest other)
-    ∙ ap (λ (x : Bool). read_on o x ((get_or words i d).now ∷ rest)) (sym was) ∙ ap (λ (ws : List (List ℕ)). read_on o b ws) (sym (words_at words i d h)) ∙ known
+chosen_standard : (c : Chosen) (word : List ℕ) → IsStandard c.options → IfSome (chosen_with c word) (λ d. IsStandard d.options)
+chosen_standard c word h = go c.named (setting_of word)
+  where
+    go : (named found : Option Setting) → IfSome (elim named [
+      | Some setting ↦ option_map settled (with_number c.options setting word)
+      | None ↦ elim found [
+        | Some setting ↦ Some (record c { named = Some setting })
+        | None ↦ option_map settled (with_word c.options word)
+      ]
+    ]) (λ d. IsStandard d.options)
+    go (Some setting) found = settled_standard (with_number c.options setting word) (number_standard c.options setting word h)
+    go None (Some setting) = h
+    go None None = settled_standard (with_word c.options word) (word_standard c.options word h)
+
+after_standard : (c : Chosen) (words : List (List ℕ)) → IsStandard c.options → IfSome (options_after c words) IsStandard
+after_standard c [] h = go c.named
+  where
+    go : (named : Option Setting) → IfSome (elim named [ None ↦ Some c.options | Some setting ↦ None ]) IsStandard
+    go None = h
+    go (Some setting) = tt
+after_standard c (word ∷ words) h = go (λ d k. after_standard d words k) (chosen_with c word) (chosen_standard c word h)
+  where
+    go : ((d : Chosen) → IsStandard d.options → IfSome (options_after d words) IsStandard) → (x : Option Chosen) → IfSome x (λ d. IsStandard d.options) → IfSome (option_and_then (λ next. options_after next words) x) IsStandard
+    go on None k = tt
+    go on (Some d) k = on d k
+
+-- whatever the words, a text has at most as many bytes as the standard limit says
+pub options_standard : (words : List (List ℕ)) (o : Options) → options_of words ≡ Some o → input_of o ≤ standard_limits.input
+options_standard words o e =
+    let P : Option Options → Type 0 = λ x. IfSome x IsStandard in
+    subst P e (after_standard (settled no_options) words (omega arith))

@@ -66,7 +66,7 @@ pub fn serve<R: Threads + Sync, S: Source, K: Sink, A: Alarm + Send>(
 
 /// Does all that the program does, and answers its status.
 ///
-/// The words may set a limit on conflicts. The source is read to its end, or to the `%` that ends
+/// The words may set a limit on conflicts and one on input. The source is read to its end, or to the `%` that ends
 /// the formula, as a DIMACS text with questions. Its clauses and parities are given to the solver.
 /// Each question, and the one at the end that has no assumptions, is asked when it is read, and its
 /// answer is written to the sink as one block, before anything further is read: a verdict, or that
@@ -96,7 +96,7 @@ pub fn run<R: Threads + Sync, S: Source, K: Sink, A: Alarm + Send>(
         return FAULTY_WORDS;
     };
     solver.set_max_confl(options.max_conflicts);
-    match serve(rt, alloc, Limits::standard(), source, sink, alarm, solver) {
+    match serve(rt, alloc, options.limits(), source, sink, alarm, solver) {
         Ok(report) => report.status(),
         Err(stop) => stop.status(),
     }

@@ -1,9 +1,8 @@
-use crate::failures::Stop;
 use crate::report::Report;
-use crate::serve::{run, serve};
+use crate::serve::run;
 use crate::write::write_report;
 use sat_api::SatSolver;
-use sat_lits::{Limits, List, NoMemory};
+use sat_lits::{List, NoMemory};
 use sat_ports::{BytesSink, BytesSource, PlainSource, Silent, Sink, Source};
 use std::alloc::Global;
 use std::test::Fail;
@@ -249,38 +248,35 @@ fn each_text_has_its_output(rt: HostRuntime) -> Result<(), Fail> {
     Ok(())
 }
 
-/// Serves a text of which four bytes are taken.
-fn serve_four_bytes<R: Threads + Sync + AllocGlobal, K: Sink>(
-    rt: &R,
-    text: &[u8],
-    sink: &mut K,
-) -> Result<Option<Stop>, Fail> {
-    let limits = Limits::new(16_777_215, 33_554_432, 64, 4).ok_or("limits")?;
-    let mut solver = SatSolver::new(rt.alloc());
-    let served = serve(
-        rt,
-        rt.alloc(),
-        limits,
-        &mut PlainSource::new(text),
-        sink,
-        &mut Silent::new(),
-        &mut solver,
-    );
-    Ok(served.err())
-}
-
 #[test]
 fn a_text_is_refused_behind_its_limit(rt: HostRuntime) -> Result<(), Fail> {
-    let mut sink = wide_sink(&rt, &[])?;
-    let stop = serve_four_bytes(&rt, b"1 0\n2 0\n", &mut sink)?;
-    assert_eq!(rt; stop, Some(Stop::Refused));
-    assert_eq!(rt; sink.bytes(), b"c refused too-long 4\n".as_slice());
+    let refused = b"c refused too-long 4\n".as_slice();
+    let rows: [(&[&str], &[u8], u8); 4] = [
+        (&["--max-input", "4"], refused, 2),
+        (&["--max-input=4", "--maxconfl", "0"], refused, 2),
+        (
+            &["--maxconfl=109", "--max-input", "8"],
+            b"s SATISFIABLE\nv 1 2 0\n",
+            10,
+        ),
+        (&["--max-input=2147483648"], b"s SATISFIABLE\nv 1 2 0\n", 10),
+    ];
+    for (words, output, status) in rows {
+        let mut sink = wide_sink(&rt, &[])?;
+        let mut source = PlainSource::new(b"1 0\n2 0\n");
+        assert_eq!(rt;
+            run_with(&rt, words, &mut source, &mut sink),
+            status,
+            "at {words:?}"
+        );
+        assert_eq!(rt; sink.bytes(), output, "at {words:?}");
+    }
     Ok(())
 }
 
 #[test]
 fn other_words_are_not_taken(rt: HostRuntime) -> Result<(), Fail> {
-    let rows: [&[&str]; 19] = [
+    let rows: [&[&str]; 23] = [
         &["--help"],
         &["--"],
         &["-"],
@@ -300,6 +296,10 @@ fn other_words_are_not_taken(rt: HostRuntime) -> Result<(), Fail> {
         &["--maxconfl=1", "--maxconfl=1"],
         &["--maxconfl", "1", "--maxconfl=1"],
         &["--maxconfl=1", "--maxconfl", "1"],
+        &["--max-input", "2147483649"],
+        &["--max-input=-4"],
+        &["--max-input=4", "--max-input", "4"],
+        &["--maxconfl", "1", "--max-input"],
     ];
     for words in rows {
         let mut source = PlainSource::new(BOTH);

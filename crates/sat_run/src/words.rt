@@ -1,13 +1,23 @@
-ghost use Rattle.std.specs.Prelude.{◌≡◌, ◌<◌, Some, None, length, map, codes, IfOk, IfErr, OnErr};
-ghost use Rattle.std.specs.Option.{option_and_then};
+ghost use Rattle.std.specs.Prelude.{◌≡◌, ◌<◌, ◌≤◌, Some, None, length, map, codes, IfOk, IfErr, OnErr};
+ghost use Rattle.std.specs.Option.{option_map, option_and_then};
 ghost use Rattle.std.specs.Str.{all_ascii_digits};
-ghost use Rattle.sat_run.specs.Words.{number_of, number_behind, with_limit, options_of};
+ghost use Rattle.sat_lits.specs.Limits.{standard_limits};
+ghost use Rattle.sat_run.specs.Progress.{limits_of};
+ghost use Rattle.sat_run.specs.Words.{number_of, number_behind, setting_of, with_setting, with_number, with_word, settled, chosen_with, no_options, options_of, input_of};
+
+use sat_lits::Limits;
 
 /// The word that the number of a conflict limit follows.
 const MAX_CONFLICTS: &str = "--maxconfl";
 
 /// What the number follows where both are one word.
 const MAX_CONFLICTS_IS: &str = "--maxconfl=";
+
+/// The word that the greatest number of input bytes follows.
+const MAX_INPUT: &str = "--max-input";
+
+/// What the number follows where both are one word.
+const MAX_INPUT_IS: &str = "--max-input=";
 
 /// The most digits of a number.
 const MOST_DIGITS: usize = 20;
@@ -17,19 +27,119 @@ const MOST_DIGITS: usize = 20;
 pub struct Options {
     /// The number of conflicts that a solver may make.
     pub max_conflicts: Option<u64>,
+    /// The number of bytes that a text may have.
+    pub max_input: Option<u64>,
+}
+
+/// An option that a number follows.
+#[derive(Clone, Copy, Debug, PartialEq, Eq)]
+pub enum Setting {
+    MaxConflicts,
+    MaxInput,
 }
 
 impl Options {
-    /// Sets the conflict limit, where there is one to set and none was set before.
-    fn with_limit(self, limit: Option<u64>) -> Option<Options>
-        ensures { result ≡ option_and_then (with_limit self) limit }
+    /// The options where there is no word.
+    fn new() -> Options
+        ensures { result ≡ no_options }
     {
-        match (self.max_conflicts, limit) {
-            (None, Some(_)) => Some(Options {
-                max_conflicts: limit,
+        Options {
+            max_conflicts: None,
+            max_input: None,
+        }
+    }
+
+    /// The limits on a text: the standard ones, but for the one on input where it is set.
+    pub fn limits(self) -> Limits
+        requires { input_of self ≤ standard_limits.input }
+        ensures { result ≡ limits_of (input_of self) }
+    {
+        let standard = Limits::standard();
+        let input = self.max_input.unwrap_or(standard.input());
+        Limits::new(standard.vars(), standard.lits(), standard.threads(), input).unwrap()
+    }
+
+    /// Sets an option that was not set before, where the number is one that it may have.
+    fn with_setting(self, setting: Setting, number: u64) -> Option<Options>
+        ensures { result ≡ with_setting self setting number }
+    {
+        match (setting, self.max_conflicts, self.max_input) {
+            (Setting::MaxConflicts, None, _) => Some(Options {
+                max_conflicts: Some(number),
+                ..self
+            }),
+            (Setting::MaxInput, _, None) if number <= Limits::standard().input() => Some(Options {
+                max_input: Some(number),
+                ..self
             }),
             _ => None,
         }
+    }
+
+    /// Sets an option to the number that a word is.
+    fn with_number(self, setting: Setting, word: &str) -> Option<Options>
+        ensures { result ≡ with_number self setting word.now }
+    {
+        match number_of(word) {
+            Some(number) => self.with_setting(setting, number),
+            None => None,
+        }
+    }
+
+    /// Sets what a word says that is an option's name, an equals sign and its number.
+    fn with_word(self, word: &str) -> Option<Options>
+        ensures { result ≡ with_word self word.now }
+    {
+        if let Some(number) = word.strip_prefix(MAX_CONFLICTS_IS) {
+            self.with_number(Setting::MaxConflicts, number)
+        } else if let Some(number) = word.strip_prefix(MAX_INPUT_IS) {
+            self.with_number(Setting::MaxInput, number)
+        } else {
+            None
+        }
+    }
+}
+
+/// What the words so far choose, and the option that was named and whose number is to come.
+#[derive(Clone, Copy, Debug, PartialEq, Eq)]
+pub struct Chosen {
+    pub options: Options,
+    pub named: Option<Setting>,
+}
+
+impl Chosen {
+    /// What is chosen behind a word more, where it is taken.
+    fn with(self, word: &str) -> Option<Chosen>
+        ensures { result ≡ chosen_with self word.now }
+    {
+        match (self.named, setting_of(word)) {
+            (Some(setting), _) => settled(self.options.with_number(setting, word)),
+            (None, None) => settled(self.options.with_word(word)),
+            (None, named) => Some(Chosen { named, ..self }),
+        }
+    }
+}
+
+/// The options, where they are taken, with no option named.
+fn settled(options: Option<Options>) -> Option<Chosen>
+    ensures { result ≡ option_map settled options }
+{
+    options.map(|options| Chosen {
+        options,
+        named: None,
+    })
+}
+
+/// The option whose name a word is.
+fn setting_of(word: &str) -> Option<Setting>
+    ensures { result ≡ setting_of word.now }
+{
+    if word == MAX_CONFLICTS {
+        Some(Setting::MaxConflicts)
+    } else if word == MAX_INPUT {
+        Some(Setting::MaxInput)
+    } else {
+        None
     }
 }
 
@@ -49,42 +159,25 @@ fn all_digits(word: &[u8]) -> bool
     word.iter().all(|byte| byte.is_ascii_digit())
 }
 
-/// The number that stands behind the option's name and an equals sign.
-fn number_behind(word: &str) -> Option<u64>
-    ensures { result ≡ number_behind (codes "--maxconfl=") word.now }
-{
-    match word.strip_prefix(MAX_CONFLICTS_IS) {
-        Some(number) => number_of(number),
-        None => None,
-    }
-}
-
 /// What the words choose. An error comes exactly where they are not taken. It is the place, from 0,
 /// of the first word that is not; where the number of the last word is missing, that word's place.
 ///
-/// Taken are no word, and a conflict limit, as `--maxconfl 109` or `--maxconfl=109`, once.
+/// Taken are a conflict limit, as `--maxconfl 109` or `--maxconfl=109`, and a limit on the bytes of
+/// input, as `--max-input 4`, which is at most 2147483648. Each comes at most once, in any order.
 pub fn read_words(words: &[&str]) -> Result<Options, usize>
     ensures ok { IfOk result (λ options. options_of (map (λ word. word.now) words.now) ≡ Some options) }
     ensures err { OnErr result (options_of (map (λ word. word.now) words.now) ≡ None) }
     ensures place { IfErr result (λ at. at < length words.now) }
 {
-    let mut options = Options {
-        max_conflicts: None,
+    let mut chosen = Chosen {
+        options: Options::new(),
+        named: None,
     };
-    let mut is_named = false;
     for (at, word) in words.iter().enumerate() {
-        if is_named {
-            options = options.with_limit(number_of(word)).ok_or(at)?;
-            is_named = false;
-        } else if *word == MAX_CONFLICTS {
-            is_named = true;
-        } else {
-            options = options.with_limit(number_behind(word)).ok_or(at)?;
-        }
+        chosen = chosen.with(word).ok_or(at)?;
     }
-    if is_named {
-        Err(words.len() - 1)
-    } else {
-        Ok(options)
+    match chosen.named {
+        None => Ok(chosen.options),
+        Some(_) => Err(words.len() - 1),
     }
 }
