@@ -8,9 +8,9 @@ mod running;
 mod texts;
 
 use error::TourError;
-use running::{Outcome, run_on_pieces, run_on_text, run_with_room};
+use running::{Outcome, run_beside_alarm, run_on_pieces, run_on_text, run_with_room};
 use std::thread::Threads;
-use texts::{CIRCUIT, ONE_MODEL, TWO_QUESTIONS};
+use texts::{CIRCUIT, ONE_MODEL, TWO_QUESTIONS, TWO_UNITS};
 
 /// Room for all that a run of the tour writes.
 const WIDE: usize = 1000;
@@ -30,6 +30,11 @@ fn main(rt: HostRuntime) -> Result<(), TourError> {
     }
     println!(rt; "# A conflict limit that is enough")?;
     show(&rt, &["--maxconfl=109"], texts::NO_MODEL, Models::Written)?;
+    println!(rt; "# At most 4 bytes of input, and as many as there are")?;
+    show(&rt, &["--max-input", "4"], TWO_UNITS, Models::Written)?;
+    let words = ["--maxconfl", "109", "--max-input=8"];
+    show(&rt, &words, TWO_UNITS, Models::Written)?;
+    show_interrupts(&rt)?;
     show_fronts(&rt)?;
     show_failed_reads(&rt)?;
     show_failed_writes(&rt)
@@ -52,6 +57,15 @@ fn show<R: Print + AllocGlobal + Threads + Sync>(
     models: Models,
 ) -> Result<(), TourError> {
     let outcome = run_on_text(rt, words, text.as_bytes(), WIDE)?;
+    show_outcome(rt, text, &outcome, models)
+}
+
+fn show_outcome<R: Print>(
+    rt: &R,
+    text: &str,
+    outcome: &Outcome,
+    models: Models,
+) -> Result<(), TourError> {
     println!(rt; "{text:?}")?;
     for line in outcome.text().lines() {
         show_line(rt, line, models)?;
@@ -67,6 +81,16 @@ fn show_line<R: Print>(rt: &R, line: &str, models: Models) -> Result<(), TourErr
             println!(rt; "  v of {count} variables")?;
         }
         _ => println!(rt; "  {line}")?,
+    }
+    Ok(())
+}
+
+/// Shows that the first question is not answered where the alarm asks for a stop, and the next one is.
+fn show_interrupts<R: Print + AllocGlobal + Threads + Sync>(rt: &R) -> Result<(), TourError> {
+    println!(rt; "# An alarm at the first poll")?;
+    for text in ["1 2 0\n", TWO_QUESTIONS] {
+        let outcome = run_beside_alarm(rt, text.as_bytes(), &[0])?;
+        show_outcome(rt, text, &outcome, Models::Written)?;
     }
     Ok(())
 }

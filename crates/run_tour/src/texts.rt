@@ -46,6 +46,9 @@ pub const TWO_QUESTIONS: &str = "1 2 0\n-1 2 0\n1 -2 0\nc Solver::solve( -1 )\n"
 /// Two variables and no model.
 pub const NO_MODEL: &str = "1 2 0\n-1 2 0\n1 -2 0\n-1 -2 0\n";
 
+/// Two clauses of one literal, in eight bytes.
+pub const TWO_UNITS: &str = "1 0\n2 0\n";
+
 /// A question, and a clause behind it.
 pub const ONE_MODEL: &str = "1 0\nc Solver::solve( )\n2 0\n";
 
