@@ -8,7 +8,8 @@ Run it from anywhere, with Python 3 and no arguments:
 crates/library_tour/stdout was written by hand, and the gate compares it with what the tour prints.
 This script reads it line by line as calls and answers, keeps the clauses and parities that were
 taken, and says of each answer whether it is right: a refusal by the rule that it names, an answer
-by a trial of all assignments, or by the number of pigeons and holes. It ends with status 1 at the first wrong line.
+by a trial of all assignments, or by the number of pigeons and holes, and one by the alarm only as
+often as the alarm asks for a stop. It ends with status 1 at the first wrong line.
 The proofs and the tests need none of this.
 """
 
@@ -33,11 +34,18 @@ class Solver:
         self.vars, self.clauses, self.parities, self.lits = 0, [], [], 0
         self.pigeons = None
         self.okay = True
+        self.raises = 0
         self.assumptions = []
         self.model = self.conflict = "None"
 
     def forget(self):
         self.model = self.conflict = "None"
+
+    def interrupt(self):
+        """Whether a poll is left at which the alarm asks for a stop."""
+        self.forget()
+        self.raises -= 1
+        return self.raises >= 0
 
     def new_vars(self, by):
         if self.vars + by > self.most_vars:
@@ -139,6 +147,8 @@ def is_right(solver, line):
     if call.startswith("add_clause"):
         clause = numbers(call)
         return answer == solver.add(clause, len(clause))
+    if call == "solve" and answer == "Unknown, by the alarm":
+        return solver.interrupt()
     if call == "solve" and answer.startswith("Unknown"):
         solver.forget()
         return answer == "Unknown, at [0] conflicts"
@@ -160,6 +170,9 @@ def is_right(solver, line):
         return answer == f"Some({solver.pigeons[0]})"
     if match := re.fullmatch(r"(\d+) pigeons in (\d+) holes", line):
         solver.pigeons = int(match[1]), int(match[2])
+        return True
+    if line.startswith("an alarm at polls"):
+        solver.raises = len(numbers(line))
         return True
     known = (
         "the second variable is never false",

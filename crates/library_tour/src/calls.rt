@@ -5,7 +5,7 @@ ghost use Rattle.std.specs.Prelude.{◌≤◌, length};
 use crate::error::TourError;
 use sat_api::{Answer, Cause, SatSolver};
 use sat_lits::{Lit, Var};
-use sat_ports::Silent;
+use sat_ports::{Alarm, Silent};
 use std::thread::Threads;
 
 /// Adds variables.
@@ -84,13 +84,23 @@ pub fn set_max_confl<R: Print>(
 
 /// Asks under no assumption.
 pub fn ask<R: Print + Threads + Sync>(rt: &R, solver: &mut SatSolver) -> Result<(), TourError> {
-    match solver.solve(rt, &[], &mut Silent::new())? {
+    ask_beside(rt, solver, &mut Silent::new())
+}
+
+/// Asks under no assumption, beside an alarm.
+pub fn ask_beside<R: Print + Threads + Sync, A: Alarm + Send>(
+    rt: &R,
+    solver: &mut SatSolver,
+    alarm: &mut A,
+) -> Result<(), TourError> {
+    match solver.solve(rt, &[], alarm)? {
         Answer::Sat => println!(rt; "solve: Sat")?,
         Answer::Unsat => println!(rt; "solve: Unsat")?,
         Answer::Unknown(Cause::Limit { counts }) => {
             let counts = counts.as_slice();
             println!(rt; "solve: Unknown, at {counts:?} conflicts")?;
         }
+        Answer::Unknown(Cause::Alarm) => println!(rt; "solve: Unknown, by the alarm")?,
     }
     Ok(())
 }

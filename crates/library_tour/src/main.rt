@@ -10,15 +10,15 @@ mod parities;
 mod pigeons;
 
 use calls::{
-    add_clause, add_long_clause, add_xor_clause, ask, ask_under, lit, new_vars, read, read_okay,
-    set_max_confl,
+    add_clause, add_long_clause, add_xor_clause, ask, ask_beside, ask_under, lit, new_vars, read,
+    read_okay, set_max_confl,
 };
 use error::TourError;
 use parities::count_all;
 use pigeons::add_pigeons;
 use sat_api::{Answer, SatSolver};
 use sat_lits::Limits;
-use sat_ports::Silent;
+use sat_ports::{AtPolls, Silent};
 use std::alloc::Global;
 use std::thread::Threads;
 
@@ -48,12 +48,13 @@ enum Topic {
     TooManyLiterals,
     OwnLimits,
     SpentLimit,
+    Interrupted,
     EqualCounts,
     ManyConflicts,
 }
 
 /// The topics in order.
-const TOPICS: [Topic; 17] = [
+const TOPICS: [Topic; 18] = [
     Topic::FirstQuestion,
     Topic::OneModel,
     Topic::UnderAssumptions,
@@ -69,6 +70,7 @@ const TOPICS: [Topic; 17] = [
     Topic::TooManyLiterals,
     Topic::OwnLimits,
     Topic::SpentLimit,
+    Topic::Interrupted,
     Topic::EqualCounts,
     Topic::ManyConflicts,
 ];
@@ -109,6 +111,7 @@ fn show_on<R: Print + AllocGlobal + Threads + Sync>(
         Topic::TooManyLiterals => too_many_literals(rt, solver),
         Topic::OwnLimits => own_limits(rt, solver),
         Topic::SpentLimit => spent_limit(rt, solver),
+        Topic::Interrupted => interrupted(rt, solver),
         Topic::EqualCounts => equal_counts(rt, solver),
         Topic::ManyConflicts => many_conflicts(rt, solver),
     }
@@ -126,7 +129,7 @@ fn first_question<R: Print + Threads + Sync>(
     match solver.solve(rt, &[lit(-2)], &mut Silent::new())? {
         Answer::Sat => println!(rt; "the second variable may be false")?,
         Answer::Unsat => println!(rt; "the second variable is never false")?,
-        Answer::Unknown(_) => println!(rt; "a limit was spent")?,
+        Answer::Unknown(_) => println!(rt; "it is not known")?,
     }
     solver.add_clause(&[lit(-1)])?;
     solver.solve(rt, &[], &mut Silent::new())?;
@@ -388,6 +391,25 @@ fn spent_limit<R: Print + AllocGlobal + Threads + Sync>(
     ask(rt, solver)?;
     read(rt, solver)?;
     set_max_confl(rt, solver, Some(0))?;
+    read(rt, solver)
+}
+
+/// One alarm beside three questions. It ends the first before its search and the second within it.
+/// The clauses stay, so the third decides them.
+fn interrupted<R: Print + AllocGlobal + Threads + Sync>(
+    rt: &R,
+    solver: &mut SatSolver,
+) -> Result<(), TourError> {
+    println!(rt; "# An interrupted question, asked again")?;
+    add_pigeons(rt, solver, 6, 5)?;
+    println!(rt; "an alarm at polls [0, 4]")?;
+    let mut alarm = AtPolls::new(&[0, 4]);
+    ask_beside(rt, solver, &mut alarm)?;
+    read(rt, solver)?;
+    ask_beside(rt, solver, &mut alarm)?;
+    read(rt, solver)?;
+    read_okay(rt, solver)?;
+    ask_beside(rt, solver, &mut alarm)?;
     read(rt, solver)
 }
 

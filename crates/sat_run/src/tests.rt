@@ -254,12 +254,8 @@ fn a_text_is_refused_behind_its_limit(rt: HostRuntime) -> Result<(), Fail> {
     let rows: [(&[&str], &[u8], u8); 4] = [
         (&["--max-input", "4"], refused, 2),
         (&["--max-input=4", "--maxconfl", "0"], refused, 2),
-        (
-            &["--maxconfl=109", "--max-input", "8"],
-            b"s SATISFIABLE\nv 1 2 0\n",
-            10,
-        ),
-        (&["--max-input=2147483648"], b"s SATISFIABLE\nv 1 2 0\n", 10),
+        (&["--maxconfl=109", "--max-input", "8"], BOTH_OUTPUT, 10),
+        (&["--max-input=2147483648"], BOTH_OUTPUT, 10),
     ];
     for (words, output, status) in rows {
         let mut sink = wide_sink(&rt, &[])?;

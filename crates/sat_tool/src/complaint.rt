@@ -39,7 +39,7 @@ impl fmt::Display for Complaint<'_> {
         match self {
             Complaint::Word(word) => write!(
                 f,
-                "usage: torimbava [--maxconfl N] < FILE; not taken: {word:?}"
+                "usage: torimbava [--maxconfl N] [--max-input N] < FILE; not taken: {word:?}"
             ),
             Complaint::Read => write!(f, "torimbava: a read of standard input failed"),
             Complaint::Write => write!(f, "torimbava: a write to standard output failed"),
@@ -60,17 +60,17 @@ mod tests {
             (
                 1,
                 &["--help"],
-                "usage: torimbava [--maxconfl N] < FILE; not taken: \"--help\"",
+                "usage: torimbava [--maxconfl N] [--max-input N] < FILE; not taken: \"--help\"",
             ),
             (
                 1,
                 &["--maxconfl", "1", "a b"],
-                "usage: torimbava [--maxconfl N] < FILE; not taken: \"a b\"",
+                "usage: torimbava [--maxconfl N] [--max-input N] < FILE; not taken: \"a b\"",
             ),
             (
                 1,
                 &["--maxconfl"],
-                "usage: torimbava [--maxconfl N] < FILE; not taken: \"--maxconfl\"",
+                "usage: torimbava [--maxconfl N] [--max-input N] < FILE; not taken: \"--maxconfl\"",
             ),
             (3, &[], "torimbava: a read of standard input failed"),
             (4, &[], "torimbava: a write to standard output failed"),

@@ -211,16 +211,27 @@ fn is_model(values: &[bool]) -> bool {
     }
 }
 
+/// Whether every assignment of three inner variables is rebuilt to a model of these clauses.
+fn are_models(rt: &impl Abort, state: &PrivateState) -> Result<bool, NoMemory> {
+    'each: for number in 0..8u32 {
+        let inner = [number % 2 == 1, number / 2 % 2 == 1, number / 4 == 1];
+        let values = rebuilt(rt, state, &inner)?;
+        if !is_model(values.as_slice()) {
+            return Ok(false);
+        }
+    }
+    Ok(true)
+}
+
 #[test]
-fn values_are_rebuilt_where_every_variable_goes(rt: HostRuntime) -> Result<(), Fail> {
+fn every_assignment_is_rebuilt_to_a_model_where_every_variable_goes(
+    rt: HostRuntime,
+) -> Result<(), Fail> {
     let mut state = new_state(rt.alloc(), 3)?;
     take(&rt, rt.alloc(), &mut state, &[positive(0), positive(1)])?;
     take(&rt, rt.alloc(), &mut state, &[negative(0), positive(2)])?;
     take(&rt, rt.alloc(), &mut state, &[negative(1), negative(2)])?;
     assert_eq!(rt; eliminate_some(rt.alloc(), &mut state, &[], 0)?, 3);
-    let free = rebuilt(&rt, &state, &[false, false, false])?;
-    assert_eq!(rt; is_model(free.as_slice()), true);
-    let taken = rebuilt(&rt, &state, &[true, true, true])?;
-    assert_eq!(rt; is_model(taken.as_slice()), true);
+    assert_eq!(rt; are_models(&rt, &state)?, true);
     Ok(())
 }
