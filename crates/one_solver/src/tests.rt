@@ -1,17 +1,13 @@
-ghost use Rattle.std.specs.Prelude.{◌≡◌, List, IfOk};
+ghost use Rattle.std.specs.Prelude.{◌≡◌, IfOk};
 ghost use Rattle.sat_lits.specs.Formulas.{names_known};
 ghost use Rattle.sat_lits.specs.declared.formula.Item.TheVariants.{Clause};
-ghost use Rattle.sat_lits.specs.Logs.{IsLegalLog};
-ghost use Rattle.sat_lits.specs.declared.shared.Shared.{Shared};
-ghost use Rattle.one_solver.specs.InStep.{EntriesFollow, IsInStep};
-ghost use Rattle.one_solver.specs.Parts.{problem_in};
+ghost use Rattle.one_solver.specs.InStep.{EntriesFollow};
 ghost use Rattle.one_solver.specs.Steps.{IsUnderWay};
 
 use crate::{OneSolver, StepAnswer};
 use analyze::Tally;
-use sat_lits::{Formula, Limits, List, Lit, NoMemory, Shared, Var, Verdict};
+use sat_lits::{Formula, Limits, List, Lit, NoMemory, Var, Verdict};
 use sat_ports::Silent;
-use share_store::Store;
 use std::alloc::Global;
 use std::process::Abort;
 use std::test::Fail;
@@ -269,60 +265,5 @@ fn an_odd_ring_has_no_model(rt: HostRuntime) -> Result<(), Fail> {
     let formula = ring(rt.alloc(), 999)?;
     let failed = failed_of(&rt, rt.alloc(), &formula, &[])?;
     assert!(rt; failed.as_slice().is_empty());
-    Ok(())
-}
-
-/// A solver of this number that took a formula and began a call.
-fn entrant(alloc: Global, number: u32, formula: &Formula) -> Result<OneSolver, NoMemory>
-    ensures problem { IfOk result (λ solver. problem_in solver ≡ formula.now.problem) }
-    ensures under_way { IfOk result (λ solver. IsUnderWay solver) }
-    ensures in_step { IfOk result (λ solver. (log : List Shared) → IsInStep solver log) }
-{
-    let mut solver = OneSolver::new(alloc, number);
-    solver.absorb(formula)?;
-    solver.begin_call(&[])?;
-    Ok(solver)
-}
-
-/// How many entries each of three exchanges in turn gave and took: one of a solver, one of another,
-/// and one of the first solver again.
-fn exchange(
-    first: &mut OneSolver,
-    second: &mut OneSolver,
-    store: &mut Store,
-) -> Result<[(u64, u64); 3], NoMemory>
-    requires same { problem_in second.old ≡ problem_in first.old }
-    requires legal { IsLegalLog (problem_in first.old) store.old }
-    requires first { IsInStep first.old store.old }
-    requires second { (log : List Shared) → IsInStep second.old log }
-    requires under_way { IsUnderWay second.old }
-    ensures under_way { IsUnderWay second.new }
-    ensures follow { EntriesFollow second.new }
-{
-    let one = (first.catch_up(store)?, first.took());
-    let other = (second.catch_up(store)?, second.took());
-    let again = (first.catch_up(store)?, first.took());
-    Ok([one, other, again])
-}
-
-/// Whether this is an entry that solver 0 gave before it knew of another one.
-fn is_given_by_first(entry: &Shared) -> bool {
-    entry.solver == 0 && entry.after == 0 && entry.clause.as_slice().len() == 1
-}
-
-#[test]
-fn fixed_literals_go_to_another_solver(rt: HostRuntime) -> Result<(), Fail> {
-    let formula = formula_of(rt.alloc(), 2, &[&[1], &[-1, 2]])?;
-    let mut first = entrant(rt.alloc(), 0, &formula)?;
-    let mut second = entrant(rt.alloc(), 1, &formula)?;
-    let mut store = Store::new(rt.alloc());
-    let counts = exchange(&mut first, &mut second, &mut store)?;
-    assert_eq!(rt; counts, [(2, 0), (0, 2), (0, 0)]);
-    assert!(rt; store.from(0).iter().all(is_given_by_first));
-    assert_eq!(rt; second.vars(), 2);
-    let StepAnswer::Verdict(Verdict::Sat(values)) = step(&mut second) else {
-        return Err("no model")?;
-    };
-    assert_eq!(rt; values.as_slice(), [true, true].as_slice());
     Ok(())
 }
