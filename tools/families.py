@@ -1,14 +1,16 @@
 #!/usr/bin/env python3
 """Times the program on families of formulas, beside minisat where that is on the path.
 
-Run it from anywhere, with Python 3 and no arguments:
+Run it from anywhere, with Python 3:
 
-    tools/families.py
+    tools/families.py             all families
+    tools/families.py WORD..      those whose names have one of the words
 
 It makes uniform random formulas of clauses of three different variables at 4.26 clauses a variable,
-ten for each number of variables; 8 pigeons in 7 holes; a random formula of 5000 variables and 18000
-clauses that a planted assignment satisfies; a chain of 100000 clauses of two literals that a clause
-of one literal sets off, and one of a million; a random formula of 500000 clauses over 300000
+ten for each number of variables; 8 pigeons in 7 holes and 9 in 8; random formulas that a planted
+assignment satisfies; two adders of 24 bits, and of 64, that shall differ and cannot; counters that
+shall reach a number in too few steps, or in enough; a chain of 100000 clauses of two literals that a
+clause of one literal sets off, and one of a million; a random formula of 500000 clauses over 300000
 variables; and planted formulas a tenth or a third of whose clauses have one literal. Each comes from
 a fixed seed, so that each run has the same ones, and goes to ./torimbava, which is built before
 the first. For each family it prints the processor seconds of the program, and of minisat in the same
@@ -24,6 +26,7 @@ import statistics
 import subprocess
 import sys
 
+from circuits import adders, counter
 from speed import PROGRAM, SATISFIABLE, UNSATISFIABLE, build, fail, random_clause, text_of
 
 SEED = 20240229
@@ -88,7 +91,14 @@ def families():
         formulas = (uniform(variables, count, instance) for instance in range(INSTANCES))
         yield f"uniform, {variables} variables, {count} clauses", formulas
     yield "8 pigeons in 7 holes", iter([pigeons(8, 7)])
+    yield "9 pigeons in 8 holes", iter([pigeons(9, 8)])
     yield "planted, 5000 variables, 18000 clauses", iter([planted(5000, 18000)])
+    yield "planted, 10000 variables, 38000 clauses", iter([planted(10000, 38000)])
+    yield "two adders, 24 and 64 bits", iter([adders(24, 4), adders(24, 6), adders(64, 8)])
+    yield "counters of 8 to 12 bits, too few steps", iter(
+        [counter(8, 200, 201), counter(10, 200, 201), counter(12, 300, 301)]
+    )
+    yield "counters of 10 bits, enough steps", iter([counter(10, 100, 77), counter(10, 200, 150)])
     yield "chain of 100000 clauses", iter([chain(100000)])
     yield "chain of 1000000 clauses", (chain(1000000) for _ in range(1))
     yield "300000 variables, 500000 clauses", (uniform(300000, 500000, i) for i in range(1))
@@ -144,7 +154,10 @@ def summary(solver, seconds):
 def main():
     build()
     other = MINISAT if shutil.which(MINISAT) else None
+    words = sys.argv[1:]
     for name, formulas in families():
+        if words and not any(word in name for word in words):
+            continue
         results = [measure(name, clauses, other) for clauses in formulas]
         print(name)
         print(summary("torimbava", [seconds for seconds, _ in results]))
