@@ -1,7 +1,7 @@
 -- Variables that are in too many clauses to be eliminated, or whose clauses have too many resolvents.
-use Rattle.std.proofs.Common.{◌≡◌, ℕ, suc, ◌+◌, ◌<◌, ◌≤◌, ◌==◌, Bool, true, false, cond, not, ◌||◌, ◌&&◌, leb, List, [], ◌∷◌, ◌++◌, append_assoc, Option, Some, None, is_some, refl, sym, ap, ap₂, subst, ◌∙◌, arith, filter, map, flat_map, length, sum_by, length-append, take, drop, get_or, option_map, option_to_list, ◌⊎◌, ⊎_elim}
+use Rattle.std.proofs.Common.{◌≡◌, ℕ, suc, ◌+◌, ◌<◌, ◌≤◌, ◌==◌, Bool, true, false, cond, not, ◌||◌, ◌&&◌, leb, List, [], ◌∷◌, ◌++◌, append_assoc, Option, Some, None, is_some, refl, sym, ap, ap₂, subst, ◌∙◌, arith, filter, map, flat_map, length, sum_by, length-append, take, drop, get_or, option_map, option_to_list, ne_eqb, ◌⊎◌, ⊎_elim}
 use Rattle.std.proofs.Math.Bool.{and-false}
-use Rattle.std.proofs.lemmas.Bool.{and_parts, and_from, or_left, or_right, false≢true, eqb-true, eq-eqb, leb-true, lt-leb}
+use Rattle.std.proofs.lemmas.Bool.{and_parts, and_from, or_left, or_right, false≢true, eqb-true, eqb-false, eq-eqb, leb-true, lt-leb}
 use Rattle.std.proofs.lemmas.List.{length-map, map-append, take-append-drop}
 use Rattle.std.proofs.lemmas.List.Elements.{filter-append, filter_map-append}
 use Rattle.std.proofs.lemmas.List.Sums.{length-filter, sum_by-cons, sum_by-append}
@@ -15,7 +15,8 @@ use Rattle.sat_lits.specs.declared.literal.InLit.{InLit}
 use Rattle.sat_lits.specs.declared.literal.OwnLit.{OwnLit}
 use Rattle.rebuild_stack.specs.Values.{own_value, each_lit}
 use Rattle.rebuild_stack.specs.CommonLaws.{or_false}
-use Rattle.rebuild_stack.specs.PutIn.{put_in, put_in_all, option_value}
+use Rattle.rebuild_stack.specs.PutIn.{same_lit, put_in, put_in_all, option_value, is_clean}
+use Rattle.rebuild_stack.specs.Roots.{turned}
 use Rattle.rebuild_stack.specs.PutInLaws.{put_in_value}
 use Rattle.rebuild_stack.specs.declared.entry.Root.TheVariants.{Last}
 use Rattle.clause_store.specs.Store.{Held, clause_at, is_live, hard_of}
@@ -183,26 +184,76 @@ both_apart a b x e f =
     point false true z p q = absurd (false≢true p)
     point false false z p q = q
 
+eqb_swap : (m n : ℕ) → (m == n) ≡ (n == m)
+eqb_swap m n = go (m == n) refl
+  where
+    go : (b : Bool) → (m == n) ≡ b → b ≡ (n == m)
+    go true e = sym (eq-eqb n m (sym (eqb-true m n e)))
+    go false e = sym (ne_eqb n m (λ z. eqb-false m n e (sym z)))
+
+all_not : {X : Type 0} (p : X → Bool) (xs : List X) → not (list_any p xs) ≡ true → list_all (λ x. not (p x)) xs ≡ true
+all_not p [] f = refl
+all_not p (x ∷ xs) f = go (p x) refl f (all_not p xs)
+  where
+    go : (b : Bool) → p x ≡ b → not (b || list_any p xs) ≡ true → (not (list_any p xs) ≡ true → list_all (λ y. not (p y)) xs ≡ true) → list_all (λ y. not (p y)) (x ∷ xs) ≡ true
+    go true g h r = absurd (false≢true h)
+    go false g h r = and_from _ _ (ap not g) (r h)
+
+-- a clean clause is apart from itself
+clean_apart : (c : List OwnLit) → is_clean c ≡ true → list_all (λ l. l.negative || not (has_sign l.var.0 true c)) c ≡ true
+clean_apart [] e = refl
+clean_apart (l ∷ c) e =
+    let p : ((not (list_any (same_lit l) c) && not (list_any (same_lit (turned true l)) c)) ≡ true) × (is_clean c ≡ true) = and_parts _ _ e in
+    let q : (not (list_any (same_lit l) c) ≡ true) × (not (list_any (same_lit (turned true l)) c) ≡ true) = and_parts _ _ p.0 in
+    and_from _ _ (head l.negative refl q.1)
+    (both_all (λ (m : OwnLit). not (same_lit (turned true l) m)) (λ m. m.negative || not (has_sign m.var.0 true c)) (λ m. m.negative || not (has_sign m.var.0 true (l ∷ c)))
+    (λ m a b. tail m (is_of m.var.0 l) refl l.negative refl m.negative refl a b) c (all_not (same_lit (turned true l)) c q.1) (clean_apart c p.1))
+  where
+    sign : l.negative ≡ false → (m : OwnLit) → (is_of l.var.0 m && beq true m.negative) ≡ same_lit (turned true l) m
+    sign g m = ap₂ (λ (y z : Bool). y && beq (not z) m.negative) (eqb_swap m.var.0 l.var.0) (sym g)
+
+    head : (b : Bool) → l.negative ≡ b → not (list_any (same_lit (turned true l)) c) ≡ true → (b || not ((is_of l.var.0 l && beq true b) || has_sign l.var.0 true c)) ≡ true
+    head true g f = refl
+    head false g f =
+        ap (λ z. not ((z && false) || has_sign l.var.0 true c)) (eq-eqb l.var.0 l.var.0 refl)
+        ∙ (ap not (any_same (λ (m : OwnLit). is_of l.var.0 m && beq true m.negative) (same_lit (turned true l)) (sign g) c) ∙ f)
+
+    tail : (m : OwnLit) (a : Bool) → is_of m.var.0 l ≡ a → (b : Bool) → l.negative ≡ b → (n : Bool) → m.negative ≡ n → not (same_lit (turned true l) m) ≡ true → (n || not (has_sign m.var.0 true c)) ≡ true
+        → (n || not ((a && beq true b) || has_sign m.var.0 true c)) ≡ true
+    tail m a f b g true h p q = refl
+    tail m false f b g false h p q = q
+    tail m true f false g false h p q = q
+    tail m true f true g false h p q = absurd (false≢true (sym (ap (λ z. not (z && beq (not l.negative) m.negative)) f ∙ ap₂ (λ (y z : Bool). not (beq (not y) z)) g h) ∙ p))
+
+-- and so is what is left of it
+clean_left : (v : ℕ) (c : List OwnLit) → is_clean c ≡ true → list_all (λ l. l.negative || not (has_sign l.var.0 true (without_var v c))) (without_var v c) ≡ true
+clean_left v c e =
+    all_filter (λ (l : OwnLit). l.negative || not (has_sign l.var.0 true c)) (λ l. not (is_of v l)) (λ l. l.negative || not (has_sign l.var.0 true (without_var v c))) (λ l p q. fewer l l.negative p) c (clean_apart c e)
+  where
+    fewer : (l : OwnLit) (n : Bool) → (n || not (has_sign l.var.0 true c)) ≡ true → (n || not (has_sign l.var.0 true (without_var v c))) ≡ true
+    fewer l true p = refl
+    fewer l false p = fewer_any (λ (k : OwnLit). is_of l.var.0 k && beq true k.negative) (λ k. not (is_of v k)) c p
+
 -- clauses that may be joined have a resolvent
-joined : (m : Maps) (v : ℕ) (i : Inner) → Matched m → inner_at m v ≡ Some i → (c d : List InLit) → list_all (has_inner m) (own_clause m c) ≡ true → list_all (has_inner m) (own_clause m d) ≡ true → may_join i.0 c d ≡ true
+joined : (m : Maps) (v : ℕ) (i : Inner) → Matched m → inner_at m v ≡ Some i → (c d : List InLit) → list_all (has_inner m) (own_clause m c) ≡ true → list_all (has_inner m) (own_clause m d) ≡ true
+    → is_clean (own_clause m c) ≡ true → is_clean (own_clause m d) ≡ true → may_join i.0 c d ≡ true
     → is_some (put_in Last (without_var v (own_clause m c) ++ without_var v (own_clause m d))) ≡ true
-joined m v i h e c d a b f =
-    let p : ((is_apart i.0 c d && is_apart i.0 d c) ≡ true) × ((is_apart i.0 c c && is_apart i.0 d d) ≡ true) = and_parts _ _ f in
-    let q : (is_apart i.0 c d ≡ true) × (is_apart i.0 d c ≡ true) = and_parts _ _ p.0 in
-    let r : (is_apart i.0 c c ≡ true) × (is_apart i.0 d d ≡ true) = and_parts _ _ p.1 in
+joined m v i h e c d a b j k f =
+    let q : (is_apart i.0 c d ≡ true) × (is_apart i.0 d c ≡ true) = and_parts _ _ f in
     let x : List OwnLit = without_var v (own_clause m c) in
     let y : List OwnLit = without_var v (own_clause m d) in
     no_tautology (x ++ y)
     (list_all-append (λ (l : OwnLit). l.negative || not (has_sign l.var.0 true (x ++ y))) x y
-    ∙ and_from _ _ (both_apart x y x (apart_own m v i h e c c a r.0) (apart_own m v i h e c d a q.0)) (both_apart x y y (apart_own m v i h e d c b q.1) (apart_own m v i h e d d b r.1)))
+    ∙ and_from _ _ (both_apart x y x (clean_left v (own_clause m c) j) (apart_own m v i h e c d a q.0)) (both_apart x y y (apart_own m v i h e d c b q.1) (clean_left v (own_clause m d) k)))
 
 -- one clause is joined with no more others than it has resolvents with
-right_joins : (m : Maps) (v : ℕ) (i : Inner) → Matched m → inner_at m v ≡ Some i → (c : List InLit) → list_all (has_inner m) (own_clause m c) ≡ true → (ds : List (List InLit)) → each_lit (has_inner m) (own_clauses m ds) ≡ true
+right_joins : (m : Maps) (v : ℕ) (i : Inner) → Matched m → inner_at m v ≡ Some i → (c : List InLit) → list_all (has_inner m) (own_clause m c) ≡ true → is_clean (own_clause m c) ≡ true → (ds : List (List InLit)) → each_lit (has_inner m) (own_clauses m ds) ≡ true → list_all is_clean (own_clauses m ds) ≡ true
     → length (filter (joins_right i.0 c) ds) ≤ length (put_in_all Last (map (λ e. without_var v (own_clause m c) ++ e) (rests v true (own_clauses m ds))))
-right_joins m v i h e c a [] g = omega arith
-right_joins m v i h e c a (d ∷ ds) g =
+right_joins m v i h e c a n [] g o = omega arith
+right_joins m v i h e c a n (d ∷ ds) g o =
+    let q : (is_clean (own_clause m d) ≡ true) × (list_all is_clean (own_clauses m ds) ≡ true) = and_parts _ _ o in
     let p : (list_all (has_inner m) (own_clause m d) ≡ true) × (each_lit (has_inner m) (own_clauses m ds) ≡ true) = and_parts _ _ g in
-    go (holds_lit i.0 false d) (has_sign v false (own_clause m d)) (may_join i.0 c d) (sym (same_sign m v i.0 (same_var m v i h e) false d)) (joined m v i h e c d a p.0) (right_joins m v i h e c a ds p.1)
+    go (holds_lit i.0 false d) (has_sign v false (own_clause m d)) (may_join i.0 c d) (sym (same_sign m v i.0 (same_var m v i h e) false d)) (joined m v i h e c d a p.0 n q.0) (right_joins m v i h e c a n ds p.1 q.1)
   where
     more : List OwnLit → List OwnLit
     more x = without_var v (own_clause m c) ++ x
@@ -227,13 +278,15 @@ right_joins m v i h e c a (d ∷ ds) g =
     go false false false f k l = none (put_in Last (more (without_var v (own_clause m d)))) l
 
 -- and so all of them
-left_joins : (m : Maps) (v : ℕ) (i : Inner) → Matched m → inner_at m v ≡ Some i → (ds : List (List InLit)) → each_lit (has_inner m) (own_clauses m ds) ≡ true → (cs : List (List InLit)) → each_lit (has_inner m) (own_clauses m cs) ≡ true
+left_joins : (m : Maps) (v : ℕ) (i : Inner) → Matched m → inner_at m v ≡ Some i → (ds : List (List InLit)) → each_lit (has_inner m) (own_clauses m ds) ≡ true → list_all is_clean (own_clauses m ds) ≡ true
+    → (cs : List (List InLit)) → each_lit (has_inner m) (own_clauses m cs) ≡ true → list_all is_clean (own_clauses m cs) ≡ true
     → sum_by (count_right i.0 ds) cs ≤ length (joins (rests v false (own_clauses m cs)) (rests v true (own_clauses m ds)))
-left_joins m v i h e ds g [] a = omega arith
-left_joins m v i h e ds g (c ∷ cs) a =
+left_joins m v i h e ds g o [] a b = omega arith
+left_joins m v i h e ds g o (c ∷ cs) a b =
+    let q : (is_clean (own_clause m c) ≡ true) × (list_all is_clean (own_clauses m cs) ≡ true) = and_parts _ _ b in
     let p : (list_all (has_inner m) (own_clause m c) ≡ true) × (each_lit (has_inner m) (own_clauses m cs) ≡ true) = and_parts _ _ a in
     subst (λ n. n ≤ length (joins (rests v false (own_clauses m (c ∷ cs))) (rests v true (own_clauses m ds)))) (sym (sum_by-cons (count_right i.0 ds) c cs))
-    (go (holds_lit i.0 true c) (has_sign v true (own_clause m c)) (sym (same_sign m v i.0 (same_var m v i h e) true c)) (length (filter (joins_right i.0 c) ds)) (right_joins m v i h e c p.0 ds g) (left_joins m v i h e ds g cs p.1))
+    (go (holds_lit i.0 true c) (has_sign v true (own_clause m c)) (sym (same_sign m v i.0 (same_var m v i h e) true c)) (length (filter (joins_right i.0 c) ds)) (right_joins m v i h e c p.0 q.0 ds g o) (left_joins m v i h e ds g o cs p.1 q.1))
   where
     with_rights : List OwnLit → List (List OwnLit)
     with_rights x = put_in_all Last (map (λ y. x ++ y) (rests v true (own_clauses m ds)))
@@ -252,9 +305,9 @@ left_joins m v i h e ds g (c ∷ cs) a =
         omega arith
 
 -- clauses with more resolvents than they are do not meet the bound
-too_joined : (m : Maps) (v : ℕ) (i : Inner) → Matched m → inner_at m v ≡ Some i → (cs : List (List InLit)) → each_lit (has_inner m) (own_clauses m cs) ≡ true → length cs < count_pairs i.0 cs → are_bounded v (own_clauses m cs) ≡ false
-too_joined m v i h e cs a l =
-    let j : sum_by (count_right i.0 cs) cs ≤ length (resolvents v (own_clauses m cs)) = left_joins m v i h e cs a cs a in
+too_joined : (m : Maps) (v : ℕ) (i : Inner) → Matched m → inner_at m v ≡ Some i → (cs : List (List InLit)) → each_lit (has_inner m) (own_clauses m cs) ≡ true → list_all is_clean (own_clauses m cs) ≡ true → length cs < count_pairs i.0 cs → are_bounded v (own_clauses m cs) ≡ false
+too_joined m v i h e cs a b l =
+    let j : sum_by (count_right i.0 cs) cs ≤ length (resolvents v (own_clauses m cs)) = left_joins m v i h e cs a b cs a b in
     let n : length (own_clauses m cs) ≡ length cs = length-map cs (own_clause m) in
     ap (λ b. are_few v (own_clauses m cs) && (b && are_short (resolvents v (own_clauses m cs)))) (lt-leb (length (resolvents v (own_clauses m cs))) (length (own_clauses m cs)) (omega arith)) ∙ and-false (are_few v (own_clauses m cs))
 
@@ -263,9 +316,9 @@ listed_hard : (m : Maps) (v : ℕ) (i : Inner) (hs : List Held) (ids : List Shor
 listed_hard m v i hs ids d e f = ap (λ (z : List Held). own_clauses m (hard_of z)) (f ∙ occurrences_touch m v i hs d e) ∙ clauses_of-filter m not (mentions v) hs
 
 -- the hard clauses in a variable's list are too many, or have too many resolvents
-pub exceeding : (m : Maps) (v : ℕ) (i : Inner) (hs : List Held) (ids : List ShortId) → Matched m → inner_at m v ≡ Some i → clauses_at hs ids ≡ occurrences i.0 hs → each_lit (has_inner m) (filter (mentions v) (own_clauses m (hard_of hs))) ≡ true
+pub exceeding : (m : Maps) (v : ℕ) (i : Inner) (hs : List Held) (ids : List ShortId) → Matched m → inner_at m v ≡ Some i → clauses_at hs ids ≡ occurrences i.0 hs → each_lit (has_inner m) (filter (mentions v) (own_clauses m (hard_of hs))) ≡ true → list_all is_clean (filter (mentions v) (own_clauses m (hard_of hs))) ≡ true
     → (32 < length (hard_of (clauses_at hs ids))) ⊎ (length (hard_of (clauses_at hs ids)) < count_pairs i.0 (hard_of (clauses_at hs ids))) → are_bounded v (filter (mentions v) (own_clauses m (hard_of hs))) ≡ false
-exceeding m v i hs ids d e f a s =
+exceeding m v i hs ids d e f a o s =
     let b : own_clauses m (hard_of (clauses_at hs ids)) ≡ filter (mentions v) (own_clauses m (hard_of hs)) = listed_hard m v i hs ids d e f in
     ⊎_elim
     (λ (l : 32 < length (hard_of (clauses_at hs ids))).
@@ -273,7 +326,7 @@ exceeding m v i hs ids d e f a s =
     let k : length (own_clauses m (hard_of (clauses_at hs ids))) ≡ length (filter (mentions v) (own_clauses m (hard_of hs))) = ap length b in
     too_many v (filter (mentions v) (own_clauses m (hard_of hs))) (filtered (mentions v) (own_clauses m (hard_of hs))) (omega arith))
     (λ (l : length (hard_of (clauses_at hs ids)) < count_pairs i.0 (hard_of (clauses_at hs ids))).
-    ap (are_bounded v) (sym b) ∙ too_joined m v i d e (hard_of (clauses_at hs ids)) (ap (each_lit (has_inner m)) b ∙ a) l)
+    ap (are_bounded v) (sym b) ∙ too_joined m v i d e (hard_of (clauses_at hs ids)) (ap (each_lit (has_inner m)) b ∙ a) (ap (list_all is_clean) b ∙ o) l)
     s
 
 -- the hard clauses of one id more

@@ -19,7 +19,7 @@ is_apart i c d = list_all (λ l. l.negative || ((l.var.0 == i) || not (holds_lit
 
 -- whether two clauses, but for a variable, have no opposite literals
 abbrev pub may_join : ℕ → List InLit → List InLit → Bool
-may_join i c d = (is_apart i c d && is_apart i d c) && (is_apart i c c && is_apart i d d)
+may_join i c d = is_apart i c d && is_apart i d c
 
 -- whether a clause without the positive literal of a variable is joined with another, and that is no tautology
 abbrev pub joins_right : ℕ → List InLit → List InLit → Bool

@@ -1,4 +1,6 @@
 ghost use Rattle.std.specs.Prelude.{◌≡◌, ◌<◌, ◌≤◌, ◌∷◌, [], true, false, filter, length, sum_by, if◌then◌else◌, IfSome, IsNone, IsSome, IsTrue};
+ghost use Rattle.std.specs.List.{list_all};
+ghost use Rattle.rebuild_stack.specs.PutIn.{is_clean};
 ghost use Rattle.rebuild_stack.specs.Values.{each_lit};
 ghost use Rattle.clause_store.specs.Store.{hard_of};
 ghost use Rattle.indexed_store.specs.Occurrences.{clauses_at};
@@ -35,8 +37,7 @@ fn is_apart(var: Inner, from: &[InLit], to: &[InLit]) -> bool
 fn may_join(var: Inner, left: &[InLit], right: &[InLit]) -> bool
     ensures { result ≡ may_join var.0 left.now right.now }
 {
-    let across = is_apart(var, left, right) && is_apart(var, right, left);
-    across && is_apart(var, left, left) && is_apart(var, right, right)
+    is_apart(var, left, right) && is_apart(var, right, left)
 }
 
 /// The literals of the clause of an id, if there is one and it is hard.
@@ -129,6 +130,7 @@ fn count_hard(store: &ClauseStore, ids: &[ShortId]) -> usize
 /// met.
 pub(crate) fn exceeds_bound(maps: &VarMaps, store: &IndexedStore, var: Own) -> bool
     requires there { IsSome (inner_at maps.now var.0) }
+    requires clean { list_all is_clean (filter (mentions var.0) (own_clauses maps.now (hard_of store.now.held))) ≡ true }
     requires active { each_lit (has_inner maps.now) (filter (mentions var.0) (own_clauses maps.now (hard_of store.now.held))) ≡ true }
     ensures { IsTrue result → are_bounded var.0 (filter (mentions var.0) (own_clauses maps.now (hard_of store.now.held))) ≡ false }
 {

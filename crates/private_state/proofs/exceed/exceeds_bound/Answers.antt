@@ -10,7 +10,7 @@ pub returns-then-hard-gt-MOST_HARD : goal.returns-then-hard-gt-MOST_HARD
 returns-then-hard-gt-MOST_HARD c = λ t.
     let e : inner_at c.args.maps.now c.args.var.0 ≡ Some c.unwrap-inner.result = search rules in
     let n : 32 < length (hard_of (clauses_at c.args.store.now.held c.occurrences-ids.result.now)) = omega (arith, rw c.store.ensures.value at c.count_hard-hard.ensures.value, c.if-hard-gt-MOST_HARD.true) in
-    exceeding c.args.maps.now c.args.var.0 c.unwrap-inner.result c.args.store.now.held c.occurrences-ids.result.now c.to_inner.ensures.matched e c.occurrences-ids.ensures.value c.requires.active (inl n)
+    exceeding c.args.maps.now c.args.var.0 c.unwrap-inner.result c.args.store.now.held c.occurrences-ids.result.now c.to_inner.ensures.matched e c.occurrences-ids.ensures.value c.requires.active c.requires.clean (inl n)
 
 pub returns : goal.returns
 returns c = λ t.
@@ -18,4 +18,4 @@ returns c = λ t.
     let s : length (hard_of (clauses_at c.args.store.now.held c.occurrences-ids.result.now)) ≡ c.count_hard-hard.result = sym (rw c.store.ensures.value at c.count_hard-hard.ensures.value) in
     let p : c.count_hard-hard.result < count_pairs c.unwrap-inner.result.0 (hard_of (clauses_at c.args.store.now.held c.occurrences-ids.result.now)) = (rw c.store-2.ensures.value at c.are_more.ensures) t in
     let n : length (hard_of (clauses_at c.args.store.now.held c.occurrences-ids.result.now)) < count_pairs c.unwrap-inner.result.0 (hard_of (clauses_at c.args.store.now.held c.occurrences-ids.result.now)) = omega arith in
-    exceeding c.args.maps.now c.args.var.0 c.unwrap-inner.result c.args.store.now.held c.occurrences-ids.result.now c.to_inner.ensures.matched e c.occurrences-ids.ensures.value c.requires.active (inr n)
+    exceeding c.args.maps.now c.args.var.0 c.unwrap-inner.result c.args.store.now.held c.occurrences-ids.result.now c.to_inner.ensures.matched e c.occurrences-ids.ensures.value c.requires.active c.requires.clean (inr n)
