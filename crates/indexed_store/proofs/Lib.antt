@@ -1,3 +1,4 @@
 pub mod Rooms
 pub mod Indexing
 pub mod Filling
+pub mod Flagging

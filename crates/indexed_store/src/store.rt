@@ -1,8 +1,10 @@
-ghost use Rattle.std.specs.Prelude.{◌≡◌, ◌<◌, ◌≤◌, ◌+◌, ◌∷◌, ◌++◌, [], length, sum_by, IfOk, OnErr, IsTrue};
+ghost use Rattle.std.specs.Prelude.{◌≡◌, ◌<◌, ◌≤◌, ◌+◌, ◌∷◌, ◌++◌, [], false, length, sum_by, IfOk, OnErr, IsTrue};
 ghost use Rattle.sat_lits.specs.InLits.{is_distinct};
 ghost use Rattle.clause_store.specs.Store.{IsKept, held_as, is_live, without, contents, hard_of, learned_of};
 ghost use Rattle.indexed_store.specs.Occurrences.{clauses_at, occurrences};
+ghost use Rattle.indexed_store.specs.Bounds.{is_bounded};
 
+use crate::flags::{clear_flags, make_flags, write_flag};
 use crate::lists::{clear_each, fill, push_each, reserve_each, sweep};
 use crate::short_id::ShortId;
 use clause_store::ClauseStore;
@@ -20,6 +22,8 @@ pub struct IndexedStore {
     // The literals of the clauses, and of dropped ones whose ids may stand in the lists.
     live: u64,
     stale: u64,
+    // By variable, whether it is set aside.
+    aside: Vec<bool>,
 }
 
 impl Model for IndexedStore {
@@ -45,6 +49,7 @@ impl IndexedStore {
             lists: Vec::new(alloc),
             live: 0,
             stale: 0,
+            aside: Vec::new(alloc),
         }
     }
 
@@ -68,6 +73,26 @@ impl IndexedStore {
         }
     }
 
+    /// Whether a variable was set aside, and no hard clause that holds it was added or dropped since.
+    /// Where it tells so, the hard clauses of the variable do not meet the bound of elimination.
+    pub fn is_set_aside(&self, var: Inner) -> bool
+        ensures { IsTrue result → is_bounded var.0 self.now.held ≡ false }
+    {
+        match self.aside.get(var.0 as usize) {
+            Some(flag) => *flag,
+            None => false,
+        }
+    }
+
+    /// Sets a variable aside, whose hard clauses do not meet the bound of elimination. It takes no
+    /// memory: a variable that no clause held yet has no place, and is not noted.
+    pub fn set_aside(&mut self, var: Inner)
+        requires { is_bounded var.0 self.old.held ≡ false }
+        ensures { self.new ≡ self.old }
+    {
+        write_flag(&mut self.aside, var, true);
+    }
+
     /// Adds a clause, in which no literal stands twice, as the last one, and tells its id, which is
     /// above all ids that were given. The only error is want of memory, and nothing changes then.
     pub fn add(&mut self, lits: &[InLit], learned: bool) -> Result<ClauseId, NoMemory>
@@ -78,8 +103,10 @@ impl IndexedStore {
         ensures err { OnErr result (self.new ≡ self.old) }
     {
         reserve_each(self.alloc, &mut self.lists, lits)?;
+        make_flags(&mut self.aside, self.lists.len())?;
         let id = self.store.add(lits, learned)?;
         push_each(&mut self.lists, lits, ShortId::of(id));
+        clear_flags(&mut self.aside, lits, learned);
         self.live = self.live.saturating_add(lits.len() as u64);
         Ok(id)
     }
@@ -90,10 +117,12 @@ impl IndexedStore {
         ensures rest { self.new ≡ record self.old { held = without id.0 self.old.held } }
         ensures kept { IsKept self.old }
     {
-        let lits = self.store.lits(id).len() as u64;
+        let lits = self.store.lits(id);
+        let count = lits.len() as u64;
+        clear_flags(&mut self.aside, lits, self.store.is_learned(id));
         self.store.drop_clause(id);
-        self.live = self.live.saturating_sub(lits);
-        self.stale = self.stale.saturating_add(lits);
+        self.live = self.live.saturating_sub(count);
+        self.stale = self.stale.saturating_add(count);
         self.sweep_stale();
     }
 

@@ -1,6 +1,8 @@
-use Rattle.std.proofs.Common.{◌≡◌, ◌≤◌, ◌<◌, ◌∙◌, ◌∷◌, [], ◌++◌, ap, arith}
+use Rattle.std.proofs.Common.{◌≡◌, ◌≤◌, ◌<◌, ◌∙◌, ◌∷◌, [], ◌++◌, ap, sym, arith}
 use Rattle.clause_store.specs.Store.{held_as}
 use Rattle.indexed_store.specs.Lists.{ids_of, are_below, added}
+use Rattle.indexed_store.specs.Flags.{is_flagged}
+use Rattle.indexed_store.proofs.Flagging.{aside_more}
 use Rattle.indexed_store.proofs.Indexing.{found_more, ids_below, below_more}
 use Rattle.indexed_store.proofs.store.IndexedStore.add.Goals as goal
 use Rattle.indexed_store.proofs.store.IndexedStore.add.Goals.{After-of}
@@ -28,4 +30,6 @@ invariant_of-self-2 c =
           (c.push_each.ensures.ids v ∙ ap (λ z. z ++ added v c.args.lits.now c.of.result) (c.in_ok-reserve_each.ensures.same v));
       found = λ v. found_more c.self.inside.store.held c.add.new.self.held c.self.inside.store.given v c.of.result c.args.learned c.args.lits.now (ids_of c.self.inside.lists.items v) (ids_of c.push_each.new.lists.items v) c.self.invariant.kept.below (c.self.invariant.known v) new held
           (c.push_each.ensures.ids v ∙ ap (λ z. z ++ added v c.args.lits.now c.of.result) (c.in_ok-reserve_each.ensures.same v)) (c.self.invariant.found v);
+      aside = λ v t. aside_more c.self.inside.store.held c.add.new.self.held (held_as c.of.result.0 c.args.learned c.args.lits.now) v (is_flagged c.make_flags.new.flags.items v) held (sym (c.clear_flags.ensures v) ∙ t)
+          (λ f. c.self.invariant.aside v (sym (c.in_ok-make_flags.ensures v) ∙ f));
     }
