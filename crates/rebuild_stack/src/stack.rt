@@ -1,5 +1,7 @@
 ghost use Rattle.std.specs.Prelude.{◌≡◌, ◌<◌, ◌↔◌, [], ◌∷◌, ◌++◌, Some, true, false, length, slice_get, remove, IsNone, IfSome, OnOk, OnErr};
 ghost use Rattle.std.specs.List.{list_all, list_any};
+ghost use Rattle.std.specs.Fn.{CalledAt};
+ghost use Rattle.std.specs.List.Retain.{IsFiltered};
 ghost use Rattle.rebuild_stack.specs.Values.{values_of};
 ghost use Rattle.rebuild_stack.specs.Entries.{rebuild, is_within, is_block_of, IsNewestBlock};
 
@@ -51,6 +53,15 @@ impl RebuildStack {
         ensures rest { self.new ≡ remove self.old at }
     {
         self.entries.remove(at)
+    }
+
+    /// Takes out each entry that does not pass the test. The others close up. It takes no memory, and
+    /// one walk over the entries.
+    pub fn retain<F: FnMut(&Entry) -> bool>(&mut self, stays: F)
+        requires { F.IsAlwaysCallable stays }
+        ensures { IsFiltered (CalledAt F.FnMut) stays self.old self.new }
+    {
+        self.entries.retain(stays);
     }
 
     /// Rebuilds the values of the variables that the entries name, from the newest entry to the

@@ -8,3 +8,4 @@ pub mod PuttingLaws
 pub mod StatusLaws
 pub mod CollectLaws
 pub mod RestoringLaws
+pub mod LeavingLaws

@@ -25,7 +25,6 @@ use Rattle.removed_vars.specs.Removed.{IsInOrder}
 use Rattle.removed_vars.specs.Statuses.{status_of}
 use Rattle.removed_vars.specs.declared.removed.Status.{Status}
 use Rattle.removed_vars.specs.declared.removed.Status.TheVariants.{Kept}
-use Rattle.removed_vars.specs.Restoring.{root_but}
 use Rattle.removed_vars.specs.CollectLaws.{taken_some}
 
 -- clauses of literals that come to the same are the same
@@ -40,6 +39,10 @@ put_in_all_agree test r q same [] e = refl
 put_in_all_agree test r q same (c ∷ cs) e =
     let p : (list_all test c ≡ true) × (list_all (list_all test) cs ≡ true) = and_parts _ _ e in
     ap₂ {C = List (List OwnLit)} cons_option (fold_agree test r q same (Some []) c p.0) (put_in_all_agree test r q same cs p.1)
+
+-- what a literal comes to, but one of the variable, which is left as it is
+abbrev pub root_but : ℕ → List Entry → OwnLit → Root
+root_but v s l = cond (l.var.0 == v) (Last l) (root s l)
 
 -- a test that all literals of an entry's clauses pass; no older entry names a literal that passes, and along all entries but its own it comes to what it comes to along the newer ones
 pub record LooksNewer (s : State) (at : ℕ) (v : Own) (cs : List (List OwnLit)) : Type 0 where

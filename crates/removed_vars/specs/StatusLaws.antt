@@ -36,14 +36,14 @@ last_skip (Equal v k) newer l n = cond_at (l.var.0 == v.0) (last_lit newer (turn
 last_skip (Gone v cs) newer l n = refl
 
 -- a literal whose variable has no entry is the last one
-last_without_entry : (s : List Entry) (l : OwnLit) → list_any (names l.var.0) s ≡ false → last_lit s l ≡ l
+pub last_without_entry : (s : List Entry) (l : OwnLit) → list_any (names l.var.0) s ≡ false → last_lit s l ≡ l
 last_without_entry [] l h = refl
 last_without_entry (e ∷ newer) l h =
     let p : (names l.var.0 e ≡ false) × (list_any (names l.var.0) newer ≡ false) = or_parts _ _ h in
     last_skip e newer l p.0 ∙ last_without_entry newer l p.1
 
 -- a variable that an entry names is not named by newer ones
-named_once : (active : ℕ → Bool) (e : Entry) (newer : List Entry) (k : ℕ) → AreOnce active (e ∷ newer) → names k e ≡ true → list_any (names k) newer ≡ false
+pub named_once : (active : ℕ → Bool) (e : Entry) (newer : List Entry) (k : ℕ) → AreOnce active (e ∷ newer) → names k e ≡ true → list_any (names k) newer ≡ false
 named_once active e newer k h n = unnamed k newer (none (names k e) n (h k))
   where
     none : (b : Bool) → b ≡ true → cond {A = ℕ} b 1 0 + times_named k newer + cond {A = ℕ} (active k) 1 0 ≤ 1 → times_named k newer ≡ 0
@@ -58,7 +58,7 @@ deeper k e newer h = go (names k e) h
     go true d = absurd (omega arith)
     go false d = refl
 
-cond_here : {A : Type 0} (b : Bool) (x y : A) → b ≡ true → cond b x y ≡ x
+pub cond_here : {A : Type 0} (b : Bool) (x y : A) → b ≡ true → cond b x y ≡ x
 cond_here true x y e = refl
 cond_here false x y e = absurd (true≢false (sym e))
 

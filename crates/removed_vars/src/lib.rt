@@ -3,8 +3,8 @@
 //! `RemovedVars` keeps the stack of entries, and beside it a table of what each own variable's entry
 //! says. So a literal is followed to what it comes to in as many steps as there are replacements on
 //! its way. `put_in` makes a clause of what its literals come to, `own_form` does so with a clause
-//! of the caller, `collect` with each stored clause that holds an entry's variable, and `put_in_block`
-//! with the clauses of an entry that is taken out again.
+//! of the caller, `collect` with each stored clause that holds an entry's variable, and `hold_block`
+//! with the clauses of an entry whose variable is active again.
 #![tactic(auto)]
 
 mod changes;
@@ -18,6 +18,6 @@ mod taking;
 pub use changes::{Changes, Fresh, add_all, collect, drop_all};
 pub use literals::{in_lits, outer_lit, own_lit, own_lits};
 pub use removed::{RemovedVars, Status};
-pub use restoring::{hold_all, put_in_block};
+pub use restoring::hold_block;
 pub use roots::{put_in, put_in_entry, turned, var_of};
 pub use taking::{add_hard, own_form};

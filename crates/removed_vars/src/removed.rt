@@ -1,18 +1,21 @@
-ghost use Rattle.std.specs.Prelude.{◌≡◌, ◌+◌, ◌<◌, ◌∷◌, ◌++◌, ◌↔◌, [], false, Some, length, remove, IsNone, IfSome, OnOk, OnErr};
+ghost use Rattle.std.specs.Prelude.{◌≡◌, ℕ, ◌+◌, ◌<◌, ◌∷◌, ◌++◌, ◌↔◌, [], false, Some, length, remove, slice_index_or, IsNone, IfSome, OnOk, OnErr};
 ghost use Rattle.std.specs.List.{list_any};
 ghost use Rattle.sat_lits.specs.Truth.{signed};
 ghost use Rattle.rebuild_stack.specs.Entries.{named, names, is_block_of};
 ghost use Rattle.rebuild_stack.specs.Roots.{root};
 ghost use Rattle.state_laws.specs.RootTableLaws.{entry_of};
 ghost use Rattle.removed_vars.specs.Removed.{HasBlock, IsInOrder, last_lit};
-ghost use Rattle.removed_vars.specs.Statuses.{status_of, IsEnd};
+ghost use Rattle.removed_vars.specs.Restoring.{stays, active_in, left_by};
+ghost use Rattle.removed_vars.specs.Statuses.{status_of, status_without, IsEnd};
 
+use crate::restoring::is_active;
 use crate::roots::{turned, var_of};
 use crate::stamps::Stamps;
 use rebuild_stack::{Entry, RebuildStack, Root};
 use sat_lits::{NoMemory, Own, OwnLit};
 use std::alloc::Global;
 use std::marker::Model;
+use var_maps::VarMaps;
 
 /// What the entry of an own variable says of it.
 #[derive(Clone, Copy, Debug, PartialEq, Eq)]
@@ -63,6 +66,38 @@ fn status_of(entry: &Entry) -> Status
         Entry::Fix(lit) => Status::Fixed(!lit.negative),
         Entry::Equal { lit, .. } => Status::Replaced(*lit),
         Entry::Gone { .. } => Status::Eliminated,
+    }
+}
+
+/// Whether an entry stays where the `Gone` entries of active variables go.
+fn stays(maps: &VarMaps, entry: &Entry) -> bool
+    ensures { result ≡ stays (active_in maps.now) entry.now }
+{
+    match entry {
+        Entry::Gone { var, .. } => !is_active(maps, *var),
+        Entry::Fix(_) | Entry::Equal { .. } => true,
+    }
+}
+
+/// Says of the variable of an entry that goes that no entry names it.
+fn forget(statuses: &mut [Status], entry: &Entry, maps: &VarMaps)
+    ensures { (k : ℕ) → slice_index_or statuses.new k Status.Kept ≡ status_without (active_in maps.now) k (entry.now ∷ []) (slice_index_or statuses.old k Status.Kept) }
+{
+    if stays(maps, entry) {
+        return;
+    }
+    let at = var_of(entry).0 as usize;
+    if at < statuses.len() {
+        statuses[at] = Status::Kept;
+    }
+}
+
+/// Says of the variable of each entry that goes that no entry names it.
+fn forget_all(statuses: &mut [Status], entries: &[Entry], maps: &VarMaps)
+    ensures { (k : ℕ) → slice_index_or statuses.new k Status.Kept ≡ status_without (active_in maps.now) k entries.now (slice_index_or statuses.old k Status.Kept) }
+{
+    'each: for entry in entries {
+        forget(statuses, entry, maps);
     }
 }
 
@@ -118,6 +153,17 @@ impl RemovedVars {
         let entry = self.stack.remove(at);
         self.stamps.remove(at);
         self.statuses[var_of(&entry).0 as usize] = Status::Kept;
+    }
+
+    /// Takes out each `Gone` entry whose variable is active. The others close up. It takes no memory,
+    /// and walks over the entries a few times, however many go.
+    pub fn take_out_active(&mut self, maps: &VarMaps)
+        requires { IsInOrder self.old.entries }
+        ensures { self.new ≡ record self.old { entries = left_by maps.now self.old.entries } }
+    {
+        forget_all(&mut self.statuses, self.stack.entries(), maps);
+        self.stack.retain(|entry| stays(maps, entry));
+        self.stamps.number(self.stack.entries());
     }
 
     /// The place of a `Gone` entry of a variable, counted from the oldest entry. None comes exactly

@@ -1,3 +1,5 @@
+use crate::roots::var_of;
+use rebuild_stack::Entry;
 use sat_lits::{NoMemory, Own};
 use std::alloc::Global;
 
@@ -49,6 +51,19 @@ impl Stamps {
     pub(crate) fn remove(&mut self, at: usize) {
         if at < self.stamps.len() {
             self.stamps.remove(at);
+        }
+    }
+
+    /// Numbers the entries anew, after some were taken out.
+    pub(crate) fn number(&mut self, entries: &[Entry]) {
+        self.stamps.truncate(entries.len());
+        for (at, entry) in entries.iter().enumerate() {
+            if let Some(stamp) = self.stamps.get_mut(at) {
+                *stamp = at as u64;
+            }
+            if let Some(place) = self.of_var.get_mut(var_of(entry).0 as usize) {
+                *place = at as u64;
+            }
         }
     }
 
