@@ -4,7 +4,7 @@ use Rattle.std.proofs.lemmas.Bool.{and_parts, false≢true, eq-eqb, lt-ltb, ltb-
 use Rattle.std.proofs.lemmas.List.Elements.{All-cons, All-nil, All-append, All-weaker}
 use Rattle.std.proofs.lemmas.Option.{same_Some, none-some}
 use Rattle.std.specs.Bool.{beq}
-use Rattle.std.specs.List.{All, AllPairs, slice_get}
+use Rattle.std.specs.List.{All, AllPairs, Contains, slice_get}
 use Rattle.sat_lits.specs.Truth.{signed}
 use Rattle.sat_lits.specs.Logs.{IsShareable}
 use Rattle.sat_lits.specs.declared.literal.Lit.{Lit}
@@ -12,7 +12,6 @@ use Rattle.sat_lits.specs.declared.literal.Own.{Own}
 use Rattle.sat_lits.specs.declared.literal.OwnLit.{OwnLit}
 use Rattle.sat_lits.specs.declared.literal.InLit.{InLit}
 use Rattle.sat_lits.specs.declared.literal.Var.{Var}
-use Rattle.sat_lits.specs.declared.shared.Shared.{Shared}
 use Rattle.rebuild_stack.specs.PutIn.{same_lit, is_clean}
 use Rattle.rebuild_stack.specs.Roots.{turned}
 use Rattle.clause_store.specs.Store.{Held, clause_at, learned_of}
@@ -21,7 +20,6 @@ use Rattle.state_laws.specs.State.{State, to_own}
 use Rattle.state_laws.specs.Held.{own_of, own_or, own_clause, own_clauses}
 use Rattle.state_laws.specs.Kernel.{Kernel, Standing, state_of}
 use Rattle.state_laws.specs.ViewLaws.{clauses_of-append}
-use Rattle.share_store.specs.Log.{HasClause}
 use Rattle.sync_laws.specs.Steps.{IsOuter, in_order}
 use Rattle.data_sync.specs.Giving.{outer_of, outer_where, stored_outer, HasPair}
 use Rattle.data_sync.specs.GivingLaws.{outer_is, outer_only}
@@ -133,23 +131,23 @@ both_own m (x ∷ []) d h g = absurd (omega arith)
 both_own m (x ∷ y ∷ []) d h g = refl
 both_own m (x ∷ y ∷ z ∷ lits) d h g = absurd (omega arith)
 
--- what a walk over stored clauses gave, with one more clause
-pub pairs_more : (s : State) (m : Maps) (hs : List Held) (o : Option Held) (old new : List Shared) → ((c : List Lit) → HasClause old c → HasClause new c)
-    → All (λ c. HasPair s c old) (own_clauses m (learned_of hs))
-    → ((h : Held) → o ≡ Some h → h.learned ≡ true → HasPair s (own_clause m h.lits) new) → All (λ c. HasPair s c new) (own_clauses m (learned_of (hs ++ option_to_list o)))
+-- what a walk over stored clauses met, with one more clause
+pub pairs_more : (s : State) (m : Maps) (hs : List Held) (o : Option Held) (old new : List (List Lit)) → ((c : List Lit) → Contains old c → Contains new c)
+    → All (HasPair s old) (own_clauses m (learned_of hs))
+    → ((h : Held) → o ≡ Some h → h.learned ≡ true → HasPair s new (own_clause m h.lits)) → All (HasPair s new) (own_clauses m (learned_of (hs ++ option_to_list o)))
 pairs_more s m hs o old new k a p =
-    subst (λ (z : List (List OwnLit)). All (λ c. HasPair s c new) z) (sym (clauses_of-append m (λ b. b) hs (option_to_list o)))
-    (All-append (λ c. HasPair s c new) (own_clauses m (learned_of hs)) (own_clauses m (learned_of (option_to_list o)))
-    (All-weaker (λ c. HasPair s c old) (λ c. HasPair s c new) (λ c h x y f g e q r. k (in_order x y) (h x y f g e q r)) (own_clauses m (learned_of hs)) a)
+    subst (λ (z : List (List OwnLit)). All (HasPair s new) z) (sym (clauses_of-append m (λ b. b) hs (option_to_list o)))
+    (All-append (HasPair s new) (own_clauses m (learned_of hs)) (own_clauses m (learned_of (option_to_list o)))
+    (All-weaker (HasPair s old) (HasPair s new) (λ c h x y f g e q r. k (in_order x y) (h x y f g e q r)) (own_clauses m (learned_of hs)) a)
     (last o p))
   where
-    one : (h : Held) (b : Bool) → b ≡ h.learned → (h.learned ≡ true → HasPair s (own_clause m h.lits) new)
-        → All (λ c. HasPair s c new) (map (own_clause m) (map (λ (c : Held). c.lits) (cond b (h ∷ []) [])))
-    one h true e f = All-cons (λ c. HasPair s c new) (own_clause m h.lits) [] (f (sym e)) (All-nil (λ c. HasPair s c new))
-    one h false e f = All-nil (λ c. HasPair s c new)
+    one : (h : Held) (b : Bool) → b ≡ h.learned → (h.learned ≡ true → HasPair s new (own_clause m h.lits))
+        → All (HasPair s new) (map (own_clause m) (map (λ (c : Held). c.lits) (cond b (h ∷ []) [])))
+    one h true e f = All-cons (HasPair s new) (own_clause m h.lits) [] (f (sym e)) (All-nil (HasPair s new))
+    one h false e f = All-nil (HasPair s new)
 
-    last : (o : Option Held) → ((h : Held) → o ≡ Some h → h.learned ≡ true → HasPair s (own_clause m h.lits) new) → All (λ c. HasPair s c new) (own_clauses m (learned_of (option_to_list o)))
-    last None f = All-nil (λ c. HasPair s c new)
+    last : (o : Option Held) → ((h : Held) → o ≡ Some h → h.learned ≡ true → HasPair s new (own_clause m h.lits)) → All (HasPair s new) (own_clauses m (learned_of (option_to_list o)))
+    last None f = All-nil (HasPair s new)
     last (Some h) f = one h h.learned refl (f h refl)
 
 -- two literals in order, where the first has the lesser variable

@@ -1,7 +1,7 @@
 -- What the fields of what was offered mean.
-use Rattle.std.specs.Prelude.{List, map}
-use Rattle.sat_lits.specs.declared.literal.Lit.{Lit}
+use Rattle.std.specs.Prelude.{map}
+use Rattle.data_sync.specs.Books.{Offers}
 use Rattle.data_sync.specs.declared.offered.Offered.TheInside.{Inside}
 
-abbrev pub clauses_of : Inside → List (List Lit)
-clauses_of p = map (λ c. c.items) p.clauses.items
+abbrev pub offers_of : Inside → Offers
+offers_of p = record { clauses = map (λ c. c.items) p.clauses.items; met = p.met }

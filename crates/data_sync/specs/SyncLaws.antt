@@ -1,8 +1,8 @@
 -- What the walks of an exchange come to.
-use Rattle.std.proofs.Common.{◌≡◌, ℕ, ◌+◌, ◌==◌, not, List, [], ◌∷◌, ◌++◌, length, map, get_or, refl, sym, ap, subst, ◌∙◌, arith, append_assoc, count_by}
-use Rattle.std.proofs.lemmas.List.Elements.{All-append, All-weaker}
+use Rattle.std.proofs.Common.{◌≡◌, inl, inr, ℕ, ◌+◌, ◌==◌, not, List, [], ◌∷◌, ◌++◌, length, map, get_or, refl, sym, ap, subst, ◌∙◌, ⊎_elim, arith, append_assoc, count_by}
+use Rattle.std.proofs.lemmas.List.Elements.{All-append, All-weaker, Contains-append_left, Contains-append_right}
 use Rattle.std.proofs.lemmas.Option.{slice_get-get_or, slice_get_within, get_or_from_slice_get}
-use Rattle.std.specs.List.{All}
+use Rattle.std.specs.List.{All, Contains}
 use Rattle.sat_lits.specs.Meaning.{Problem}
 use Rattle.sat_lits.specs.Logs.{IsLegalLog}
 use Rattle.sat_lits.specs.LogLaws.{shareable_known}
@@ -11,15 +11,16 @@ use Rattle.share_store.specs.Log.{entry_of, HasClause}
 use Rattle.sat_lits.specs.declared.literal.Lit.{Lit}
 use Rattle.state_laws.specs.State.{State, problem_of, outer_count}
 use Rattle.state_laws.specs.Stands.{Stands}
-use Rattle.sync_laws.specs.Steps.{StandsIn, IsInStep, IsTurn, IsSettled}
+use Rattle.sync_laws.specs.Steps.{StandsIn, IsInStep, IsTurn, IsSettled, in_order}
 use Rattle.sync_laws.specs.StepLaws.{longer-IsInStep}
 use Rattle.sync_laws.specs.TurnLaws.{turn_taken, turn_legal}
 use Rattle.data_sync.specs.Taking.{AreKnown, AreAway, Reads, HasTried, HasRead, others}
 use Rattle.data_sync.specs.TakingLaws.{read_none, others_taken, count_more}
-use Rattle.data_sync.specs.Giving.{KeepsTurns, HasFixed, HasPair}
+use Rattle.data_sync.specs.Giving.{AddsOnly, KeepsTurns}
+use Rattle.data_sync.specs.OfferLaws.{has_any}
 use Rattle.data_sync.specs.HeardLaws.{read_heard}
 use Rattle.data_sync.specs.Books.{Book}
-use Rattle.data_sync.specs.Syncs.{Synced}
+use Rattle.data_sync.specs.Syncs.{HasOffered, Synced}
 
 -- the variables of a legal log are there
 pub known_legal : (s : State) (log : List Shared) → IsLegalLog (problem_of s) log → AreKnown s log
@@ -80,12 +81,31 @@ pub offered_kept : (s : State) (solver after : ℕ) (old new : List Shared) (cs 
 offered_kept s solver after old new cs k a = All-weaker (HasClause old) (HasClause new) (λ c h. k.keeps c h) cs a
 
 -- and the state is settled then
-pub settled_after : (s t : State) (solver : ℕ) (old new : List Shared) (waiting : List ℕ) → Stands t → HasRead s t old (length old) waiting → KeepsTurns t solver (length old) old new
-    → HasFixed t (length t.stack) new → All (λ c. HasPair t c new) t.learned → IsSettled t new
-settled_after s t solver old new waiting st h k f p =
+pub settled_after : (s t : State) (solver : ℕ) (old new : List Shared) (waiting : List ℕ) (book : Book) → Stands t → HasRead s t old (length old) waiting → KeepsTurns t solver (length old) old new
+    → HasOffered t book → All (HasClause new) book.fixed → All (HasClause new) book.pairs → IsSettled t new
+settled_after s t solver old new waiting book st h k o fixed pairs =
     record {
-      heard = λ o. k.heard (read_heard s t old waiting h st o);
-      fixed = λ o at l own g i. f at l own (slice_get_within t.stack at _ g) g i;
-      binaries = λ o at x y first second g i j.
-          p at (first ∷ second ∷ []) (slice_get_within t.learned at (first ∷ second ∷ []) g) x y first second (get_or_from_slice_get t.learned at (first ∷ second ∷ []) (first ∷ second ∷ []) g) i j;
+      heard = λ e. k.heard (read_heard s t old waiting h st e);
+      fixed = λ e at l own g i. has_any new book.fixed (l ∷ []) fixed (o.fixed at l own (slice_get_within t.stack at _ g) g i);
+      binaries = λ e at x y first second g i j.
+          has_any new book.pairs (in_order x y) pairs
+          (o.pairs at (first ∷ second ∷ []) (slice_get_within t.learned at (first ∷ second ∷ []) g) x y first second (get_or_from_slice_get t.learned at (first ∷ second ∷ []) (first ∷ second ∷ []) g) i j);
     }
+
+-- what fixed literals added is among the clauses that were offered
+pub adds_fixed : (old new : List Shared) (fixed pairs : List (List Lit)) → AddsOnly old new fixed → AddsOnly old new (fixed ++ pairs)
+adds_fixed old new fixed pairs x =
+    λ c h.
+    ⊎_elim
+    (λ (i : HasClause old c). inl i)
+    (λ (i : Contains fixed c). inr (Contains-append_left fixed pairs c i))
+    (x c h)
+
+-- and what learned clauses added after them
+pub adds_both : (old mid new : List Shared) (fixed pairs : List (List Lit)) → AddsOnly old mid fixed → AddsOnly mid new pairs → AddsOnly old new (fixed ++ pairs)
+adds_both old mid new fixed pairs x y =
+    λ c h.
+    ⊎_elim
+    (λ (i : HasClause mid c). adds_fixed old mid fixed pairs x c i)
+    (λ (i : Contains pairs c). inr (Contains-append_right fixed pairs c i))
+    (y c h)

@@ -1,11 +1,12 @@
-ghost use Rattle.std.specs.Prelude.{◌≡◌, ◌≢◌, ◌≤◌, true, length, Some, OnOk, IsTrue, All};
+ghost use Rattle.std.specs.Prelude.{◌≡◌, ◌≢◌, ◌≤◌, true, length, Some, OnOk, IsTrue, All, Contains};
 ghost use Rattle.clause_store.specs.Store.{Held, is_live, clause_at};
 ghost use Rattle.state_laws.specs.Held.{own_clause};
 ghost use Rattle.share_store.specs.Log.{HasClause};
 ghost use Rattle.state_laws.specs.Kernel.{state_of, Standing};
 ghost use Rattle.var_maps.specs.Maps.{Matched};
 ghost use Rattle.sync_laws.specs.Steps.{in_order};
-ghost use Rattle.data_sync.specs.Giving.{Gives, KeepsTurns, HasPair, stored_outer};
+ghost use Rattle.data_sync.specs.Books.{met_in};
+ghost use Rattle.data_sync.specs.Giving.{Gives, AddsOnly, Remembers, KeepsTurns, HasPair, stored_outer};
 
 use crate::offered::Offered;
 use private_state::PrivateState;
@@ -37,9 +38,10 @@ fn offer_pair(
 ) -> Result<(), NoMemory>
     requires different { first.var.0 ≢ second.var.0 }
     requires earlier { after ≤ length store.old }
-    requires known { All (HasClause store.old) offered.old }
-    ensures has { OnOk result (HasClause store.new (in_order first second)) }
-    ensures known { All (HasClause store.new) offered.new }
+    requires known { All (HasClause store.old) offered.old.clauses }
+    ensures met { OnOk result (Contains (met_in offered.new) (in_order first second)) }
+    ensures known { All (HasClause store.new) offered.new.clauses }
+    ensures remembers { Remembers store.old store.new offered.old offered.new }
     ensures gives { Gives store.old store.new solver after (in_order first second) }
 {
     if first.var.0 < second.var.0 {
@@ -59,9 +61,10 @@ fn offer_clause(
 ) -> Result<(), NoMemory>
     requires live { IsTrue (is_live state.now.store.held id.0) }
     requires earlier { after ≤ length store.old }
-    requires known { All (HasClause store.old) offered.old }
-    ensures pair { OnOk result ((h : Held) → clause_at state.now.store.held id.0 ≡ Some h → h.learned ≡ true → HasPair (state_of state.now) (own_clause state.now.maps h.lits) store.new) }
-    ensures known { All (HasClause store.new) offered.new }
+    requires known { All (HasClause store.old) offered.old.clauses }
+    ensures pair { OnOk result ((h : Held) → clause_at state.now.store.held id.0 ≡ Some h → h.learned ≡ true → HasPair (state_of state.now) (met_in offered.new) (own_clause state.now.maps h.lits)) }
+    ensures known { All (HasClause store.new) offered.new.clauses }
+    ensures remembers { Remembers store.old store.new offered.old offered.new }
     ensures turns { KeepsTurns (state_of state.now) solver after store.old store.new }
 {
     let clauses = state.clauses();
@@ -90,9 +93,10 @@ pub(crate) fn offer_binaries(
     offered: &mut Offered,
 ) -> Result<(), NoMemory>
     requires earlier { after ≤ length store.old }
-    requires known { All (HasClause store.old) offered.old }
-    ensures pairs { OnOk result (All (λ c. HasPair (state_of state.now) c store.new) (state_of state.now).learned) }
-    ensures known { All (HasClause store.new) offered.new }
+    requires known { All (HasClause store.old) offered.old.clauses }
+    ensures pairs { OnOk result (All (HasPair (state_of state.now) offered.new.clauses) (state_of state.now).learned) }
+    ensures known { All (HasClause store.new) offered.new.clauses }
+    ensures adds { AddsOnly store.old store.new offered.new.clauses }
     ensures standing { Standing state.now }
     ensures turns { KeepsTurns (state_of state.now) solver after store.old store.new }
 {

@@ -1,11 +1,12 @@
-ghost use Rattle.std.specs.Prelude.{◌≡◌, ◌+◌, IfOk, OnOk, length};
+ghost use Rattle.std.specs.Prelude.{◌≡◌, ◌+◌, ◌++◌, IfOk, OnOk, length};
 ghost use Rattle.sat_lits.specs.Logs.{IsLegalLog};
 ghost use Rattle.state_laws.specs.State.{problem_of};
 ghost use Rattle.state_laws.specs.Kernel.{state_of};
 ghost use Rattle.sync_laws.specs.Steps.{IsSettled};
 ghost use Rattle.data_sync.specs.Taking.{IsRead, others};
 ghost use Rattle.data_sync.specs.Books.{no_book};
-ghost use Rattle.data_sync.specs.Syncs.{InStepWith, Synced};
+ghost use Rattle.data_sync.specs.Giving.{AddsOnly};
+ghost use Rattle.data_sync.specs.Syncs.{InStepWith, Synced, HasOffered};
 
 use crate::binaries::offer_binaries;
 use crate::fixed::offer_fixed;
@@ -76,8 +77,10 @@ impl SyncBook {
     /// Tries the waiting entries again, reads the log from the cursor to its end, and offers each
     /// fixed literal and each learned clause of two literals whose variables are the caller's. So
     /// the solver's own new entries are read by its next call. The log is legal for the items taken,
-    /// and the book with the state is in step with it. The only error is want of memory: the cursor
-    /// then stands at the first entry that was neither taken nor put among the waiting ones.
+    /// and the book with the state is in step with it. It has each of these clauses then, and each
+    /// that was added to the log, so that the next call need not look them up. The only error is want
+    /// of memory: the cursor then stands at the first entry that was neither taken nor put among the
+    /// waiting ones, and the book has what was added.
     pub fn sync(
         &mut self,
         state: &mut PrivateState,
@@ -91,6 +94,8 @@ impl SyncBook {
         ensures read { IsRead (state_of state.old) self.old.cursor self.old.waiting store.old → IsRead (state_of state.new) self.new.cursor self.new.waiting store.old }
 
         ensures settled { OnOk result (IsSettled (state_of state.new) store.new) }
+        ensures offered { OnOk result (HasOffered (state_of state.new) self.new) }
+        ensures added { AddsOnly store.old store.new (self.new.fixed ++ self.new.pairs) }
         ensures cursor { OnOk result (self.new.cursor ≡ length store.old) }
         ensures took { IfOk result (λ report. report.took ≡ others solver (state_of state.old) (state_of state.new)) }
         ensures gave { IfOk result (λ report. length store.new ≡ length store.old + report.gave) }

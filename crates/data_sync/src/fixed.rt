@@ -1,4 +1,4 @@
-ghost use Rattle.std.specs.Prelude.{◌≡◌, ◌<◌, ◌≤◌, [], ◌∷◌, length, All, Any, OnOk};
+ghost use Rattle.std.specs.Prelude.{◌≡◌, ◌<◌, ◌≤◌, [], ◌∷◌, length, All, Any, Contains, OnOk};
 ghost use Rattle.sat_lits.specs.declared.literal.Lit.{Lit};
 ghost use Rattle.sat_lits.specs.declared.literal.OwnLit.{OwnLit};
 ghost use Rattle.rebuild_stack.specs.declared.entry.Entry.TheVariants.{Fix};
@@ -6,7 +6,8 @@ ghost use Rattle.share_store.specs.Log.{HasClause};
 ghost use Rattle.var_maps.specs.Maps.{Matched};
 ghost use Rattle.state_laws.specs.Kernel.{state_of};
 ghost use Rattle.sync_laws.specs.Steps.{IsOuter};
-ghost use Rattle.data_sync.specs.Giving.{KeepsTurns, HasFixed, outer_of};
+ghost use Rattle.data_sync.specs.Books.{met_in};
+ghost use Rattle.data_sync.specs.Giving.{AddsOnly, Remembers, KeepsTurns, HasFixed, outer_of};
 
 use crate::offered::Offered;
 use private_state::PrivateState;
@@ -40,9 +41,10 @@ fn offer_entry(
 ) -> Result<(), NoMemory>
     requires stands { Any (λ e. e ≡ entry.now) state.now.stack }
     requires earlier { after ≤ length store.old }
-    requires known { All (HasClause store.old) offered.old }
-    ensures fixed { OnOk result ((own : OwnLit) (l : Lit) → entry.now ≡ Fix own → IsOuter (state_of state.now) l own → HasClause store.new (l ∷ [])) }
-    ensures known { All (HasClause store.new) offered.new }
+    requires known { All (HasClause store.old) offered.old.clauses }
+    ensures fixed { OnOk result ((own : OwnLit) (l : Lit) → entry.now ≡ Fix own → IsOuter (state_of state.now) l own → Contains (met_in offered.new) (l ∷ [])) }
+    ensures known { All (HasClause store.new) offered.new.clauses }
+    ensures remembers { Remembers store.old store.new offered.old offered.new }
     ensures turns { KeepsTurns (state_of state.now) solver after store.old store.new }
 {
     let maps = state.maps();
@@ -63,9 +65,10 @@ pub(crate) fn offer_fixed(
     offered: &mut Offered,
 ) -> Result<(), NoMemory>
     requires earlier { after ≤ length store.old }
-    requires known { All (HasClause store.old) offered.old }
-    ensures fixed { OnOk result (HasFixed (state_of state.now) (length state.now.stack) store.new) }
-    ensures known { All (HasClause store.new) offered.new }
+    requires known { All (HasClause store.old) offered.old.clauses }
+    ensures fixed { OnOk result (HasFixed (state_of state.now) (length state.now.stack) offered.new.clauses) }
+    ensures known { All (HasClause store.new) offered.new.clauses }
+    ensures adds { AddsOnly store.old store.new offered.new.clauses }
     ensures turns { KeepsTurns (state_of state.now) solver after store.old store.new }
 {
     offered.begin();

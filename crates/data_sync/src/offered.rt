@@ -1,6 +1,7 @@
-ghost use Rattle.std.specs.Prelude.{◌≡◌, ◌≤◌, true, [], All, Any, OnOk, length};
+ghost use Rattle.std.specs.Prelude.{◌≡◌, ◌≤◌, true, [], Some, All, Contains, OnOk, length, slice_get};
 ghost use Rattle.share_store.specs.Log.{CanBeShared, HasClause};
-ghost use Rattle.data_sync.specs.Giving.{Gives};
+ghost use Rattle.data_sync.specs.Books.{no_offers, met_in};
+ghost use Rattle.data_sync.specs.Giving.{Gives, Remembers};
 
 use sat_lits::{Lit, NoMemory};
 use share_store::Store;
@@ -20,20 +21,19 @@ pub(crate) struct Offered {
 }
 
 impl Model for Offered {
-    ghost use Rattle.std.specs.Prelude.{List};
-    ghost use Rattle.sat_lits.specs.declared.literal.Lit.{Lit};
+    ghost use Rattle.data_sync.specs.Books.{Offers};
 
-    ghost Value = { List (List Lit) };
+    ghost Value = { Offers };
 
-    ghost use Rattle.data_sync.specs.OfferedKept.{clauses_of};
+    ghost use Rattle.data_sync.specs.OfferedKept.{offers_of};
 
-    ghost view = { clauses_of };
+    ghost view = { offers_of };
 }
 
 impl Offered {
     /// Nothing was offered. It takes no memory.
     pub(crate) fn new(alloc: Global) -> Offered
-        ensures { result ≡ [] }
+        ensures { result ≡ no_offers }
     {
         Offered {
             alloc,
@@ -44,7 +44,8 @@ impl Offered {
 
     /// Begins a walk.
     pub(crate) fn begin(&mut self)
-        ensures { self.new ≡ self.old }
+        ensures clauses { self.new.clauses ≡ self.old.clauses }
+        ensures met { met_in self.new ≡ [] }
     {
         self.met = 0;
     }
@@ -60,26 +61,28 @@ impl Offered {
     ) -> Result<(), NoMemory>
         requires form { CanBeShared clause.now }
         requires earlier { after ≤ length store.old }
-        requires known { All (HasClause store.old) self.old }
-        ensures has { OnOk result (HasClause store.new clause.now) }
-        ensures known { All (HasClause store.new) self.new }
+        requires known { All (HasClause store.old) self.old.clauses }
+        ensures met { OnOk result (Contains (met_in self.new) clause.now) }
+        ensures known { All (HasClause store.new) self.new.clauses }
         ensures gives { Gives store.old store.new solver after clause.now }
+        ensures remembers { Remembers store.old store.new self.old self.new }
     {
         if self.is_next(clause) {
-            self.met = self.met.saturating_add(1);
+            self.met += 1;
             return Ok(());
         }
+        let offered = SmallVec::from_slice(self.alloc, clause)?;
+        self.clauses.reserve(1)?;
         store.offer(solver, after, clause)?;
         self.clauses.truncate(self.met);
-        self.clauses
-            .push(SmallVec::from_slice(self.alloc, clause)?)?;
+        self.clauses.push_reserved(offered);
         self.met = self.clauses.len();
         Ok(())
     }
 
     /// Whether the walk meets a clause where the last one did.
     fn is_next(&self, clause: &[Lit]) -> bool
-        ensures { result ≡ true → Any (λ c. c ≡ clause.now) self.now }
+        ensures { result ≡ true → slice_get self.now.clauses self.now.met ≡ Some clause.now }
     {
         match self.clauses.get(self.met) {
             Some(met) => met.as_slice() == clause,

@@ -1,12 +1,12 @@
 use Rattle.std.proofs.Common.{◌≡◌, ◌≢◌, ◌∙◌, ◌<◌, ◌≤◌, ℕ, Bool, true, false, refl, ap, sym, subst, List, [], ◌∷◌, Option, Some, None, length, get_or, option_map, IfOk, Result, Ok, Err}
-use Rattle.std.specs.List.{slice_get}
+use Rattle.std.specs.List.{Contains, slice_get}
 use Rattle.std.proofs.lemmas.Option.{same_Some, none-some}
 use Rattle.sat_lits.specs.ListLaws.{all_get}
 use Rattle.sat_lits.specs.declared.literal.Lit.{Lit}
 use Rattle.sat_lits.specs.declared.literal.OwnLit.{OwnLit}
 use Rattle.sat_lits.specs.declared.literal.InLit.{InLit}
 use Rattle.rebuild_stack.specs.PutIn.{is_clean}
-use Rattle.share_store.specs.Log.{HasClause}
+use Rattle.data_sync.specs.Books.{met_in}
 use Rattle.clause_store.specs.Store.{Store, Held, clause_at, learned_of}
 use Rattle.var_maps.specs.Maps.{Maps, Matched}
 use Rattle.state_laws.specs.State.{State, outer_count}
@@ -100,8 +100,8 @@ offer_pair-requires-clause-different c =
 
 pub returns-clause-pair : goal.returns-clause-pair
 returns-clause-pair c =
-    if_ok (λ _. HasClause c.offer_pair.new.store (in_order c.in-Some.first c.in-Some-outer_in.second))
-    (λ count. (h : Held) → clause_at c.args.state.now.store.held c.args.id.0 ≡ Some h → h.learned ≡ true → HasPair (state_of c.args.state.now) (own_clause c.args.state.now.maps h.lits) c.offer_pair.new.store)
+    if_ok (λ _. Contains (met_in c.offer_pair.new.offered) (in_order c.in-Some.first c.in-Some-outer_in.second))
+    (λ count. (h : Held) → clause_at c.args.state.now.store.held c.args.id.0 ≡ Some h → h.learned ≡ true → HasPair (state_of c.args.state.now) (met_in c.offer_pair.new.offered) (own_clause c.args.state.now.maps h.lits))
     (λ count has h e l k m first second q o p.
     let two : own_clause c.args.state.now.maps h.lits ≡ own_of c.args.state.now.maps (get_or c.lits.result.now 0 zero_lit) ∷ own_of c.args.state.now.maps (get_or c.lits.result.now 1 zero_lit) ∷ [] =
     pairs c.args.state.now c.clauses-clauses.result.now c.args.id.0 c.lits.result.now zero_lit c.clauses-clauses.ensures.value c.lits.ensures.value c.in-len2.len_at_least c.in-len2.len_below h e in
@@ -109,8 +109,8 @@ returns-clause-pair c =
     ∙ outer_found c.args.state.now c.maps.result.now (get_or c.lits.result.now 0 zero_lit) c.outer_in.result first k c.clauses-clauses.ensures.standing c.maps.ensures.value c.outer_in.ensures.matched c.outer_in.ensures.value (head_same _ _ _ _ (sym two ∙ q)) o) in
     let b : c.in-Some-outer_in.second ≡ m = same_Some c.in-Some-outer_in.second m (sym c.in-Some-outer_in.is
     ∙ outer_found c.args.state.now c.maps-2.result.now (get_or c.lits.result.now 1 zero_lit) c.outer_in-2.result second m c.clauses-clauses.ensures.standing c.maps-2.ensures.value c.outer_in-2.ensures.matched c.outer_in-2.ensures.value (next_same _ _ _ _ (sym two ∙ q)) p) in
-    subst (λ (z : Lit). HasClause c.offer_pair.new.store (in_order k z)) b (subst (λ (z : Lit). HasClause c.offer_pair.new.store (in_order z c.in-Some-outer_in.second)) a has))
-    c.offer_pair.result c.offer_pair.ensures.has
+    subst (λ (z : Lit). Contains (met_in c.offer_pair.new.offered) (in_order k z)) b (subst (λ (z : Lit). Contains (met_in c.offer_pair.new.offered) (in_order z c.in-Some-outer_in.second)) a has))
+    c.offer_pair.result c.offer_pair.ensures.met
 
 pub returns-clause-turns : goal.returns-clause-turns
 returns-clause-turns c =

@@ -1,11 +1,11 @@
 use Rattle.std.proofs.Common.{◌≡◌, ◌∙◌, ℕ, ap, sym, subst, [], ◌∷◌, Some, IfOk, Result, Ok, Err}
-use Rattle.std.specs.List.{Any, slice_get}
+use Rattle.std.specs.List.{Any, Contains, slice_get}
 use Rattle.std.proofs.lemmas.Option.{same_Some, none-some}
 use Rattle.sat_lits.specs.declared.literal.Lit.{Lit}
 use Rattle.sat_lits.specs.declared.literal.OwnLit.{OwnLit}
 use Rattle.rebuild_stack.specs.declared.entry.Entry.{Entry}
 use Rattle.rebuild_stack.specs.declared.entry.Entry.TheVariants.{Fix}
-use Rattle.share_store.specs.Log.{HasClause}
+use Rattle.data_sync.specs.Books.{met_in}
 use Rattle.var_maps.specs.Maps.{Maps, Matched}
 use Rattle.state_laws.specs.State.{State, outer_count}
 use Rattle.state_laws.specs.Kernel.{Kernel, Standing, state_of}
@@ -35,11 +35,11 @@ outer_lit-requires c =
 
 pub returns-in-Some-clause-fixed : goal.returns-in-Some-clause-fixed
 returns-in-Some-clause-fixed c =
-    if_ok (λ count. HasClause c.offer.new.store (c.in-Some.outer ∷ [])) (λ count. (own : OwnLit) → (l : Lit) → c.args.entry.now ≡ Fix own → IsOuter (state_of c.args.state.now) l own → HasClause c.offer.new.store (l ∷ []))
-    (λ count h own l q o. subst (λ (z : Lit). HasClause c.offer.new.store (z ∷ []))
+    if_ok (λ _. Contains (met_in c.offer.new.self) (c.in-Some.outer ∷ [])) (λ _. (own : OwnLit) → (l : Lit) → c.args.entry.now ≡ Fix own → IsOuter (state_of c.args.state.now) l own → Contains (met_in c.offer.new.self) (l ∷ []))
+    (λ _ h own l q o. subst (λ (z : Lit). Contains (met_in c.offer.new.self) (z ∷ []))
     (same_Some c.in-Some.outer l (sym c.in-Some.is ∙ (c.outer_lit.ensures.value ∙ found c.args.state.now c.maps-maps.result.now c.args.entry.now c.in-Fix.lit own l c.maps-maps.ensures.standing c.maps-maps.ensures.value c.outer_lit.ensures.matched c.in-Fix.is q o)))
     h)
-    c.offer.result c.offer.ensures.has
+    c.offer.result c.offer.ensures.met
 
 pub returns-in-Some-clause-turns : goal.returns-in-Some-clause-turns
 returns-in-Some-clause-turns c =
