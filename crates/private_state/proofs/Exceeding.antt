@@ -27,7 +27,7 @@ use Rattle.state_laws.specs.Held.{own_of, own_clause, own_clauses, has_inner}
 use Rattle.state_laws.specs.Resolution.{is_of, mentions, has_sign, without_var, rests, joins, resolvents}
 use Rattle.state_laws.specs.ViewLaws.{clauses_of-filter}
 use Rattle.removed_vars.specs.CollectLaws.{touches_read, clauses_at-more}
-use Rattle.private_state.specs.Bounds.{are_few, are_short, are_bounded}
+use Rattle.indexed_store.specs.Bounds.{are_few, are_short, are_bounded}
 use Rattle.private_state.specs.Pairs.{hard_at, holds_lit, is_apart, may_join, joins_right, count_right, count_pairs}
 use Rattle.private_state.proofs.Resolving.{occurrences_touch}
 
@@ -136,7 +136,7 @@ no_tautology x e =
     left (Some c) f = refl
 
 -- a stored literal is of the variable where it has the variable's inner number
-same_var : (m : Maps) (v : ℕ) (i : Inner) → Matched m → inner_at m v ≡ Some i → (l : InLit) → is_of v (own_of m l) ≡ (l.var.0 == i.0)
+pub same_var : (m : Maps) (v : ℕ) (i : Inner) → Matched m → inner_at m v ≡ Some i → (l : InLit) → is_of v (own_of m l) ≡ (l.var.0 == i.0)
 same_var m v i d e l =
     sym (or_false (is_of v (own_of m l))) ∙ (touches_read m v i (record { id = 0; learned = false; lits = l ∷ [] }) (l ∷ []) ((l.var.0 == i.0) || false) d e refl refl ∙ or_false (l.var.0 == i.0))
 
@@ -145,7 +145,7 @@ some_inner None e = absurd (false≢true e)
 some_inner (Some j) e = (j, refl)
 
 -- stored literals of active variables are of one variable where they have one inner number
-same_number : (m : Maps) → Matched m → (l : InLit) → has_inner m (own_of m l) ≡ true → (k : InLit) → is_of (own_of m l).var.0 (own_of m k) ≡ (k.var.0 == l.var.0)
+pub same_number : (m : Maps) → Matched m → (l : InLit) → has_inner m (own_of m l) ≡ true → (k : InLit) → is_of (own_of m l).var.0 (own_of m k) ≡ (k.var.0 == l.var.0)
 same_number m d l a k =
     let j : (j : Inner) × (inner_at m (own_of m l).var.0 ≡ Some j) = some_inner (inner_at m (own_of m l).var.0) a in
     let n : l.var.0 ≡ j.0.0 = eqb-true _ _ (sym (same_var m (own_of m l).var.0 j.0 d j.1 l) ∙ eq-eqb (own_of m l).var.0 (own_of m l).var.0 refl) in

@@ -4,3 +4,4 @@ pub mod Reviving
 pub mod Resolving
 pub mod Importing
 pub mod Exceeding
+pub mod Renaming

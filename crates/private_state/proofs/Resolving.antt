@@ -29,7 +29,7 @@ use Rattle.state_laws.specs.ViewLaws.{clauses_of-filter, get_is_some}
 use Rattle.removed_vars.specs.declared.changes.Fresh.{Fresh}
 use Rattle.private_state.specs.declared.take_out.TakenOut.{TakenOut}
 use Rattle.removed_vars.specs.Fresh.{in_clause, in_clauses}
-use Rattle.private_state.specs.Bounds.{are_few, are_short, are_bounded}
+use Rattle.indexed_store.specs.Bounds.{are_few, are_short, are_bounded}
 use Rattle.removed_vars.specs.Fresh.{Stores}
 use Rattle.private_state.specs.Resolving.{Takes, TakesOut}
 use Rattle.removed_vars.specs.CollectLaws.{read_at, touches_holds, taken_some}

@@ -1,7 +1,7 @@
 ghost use Rattle.std.specs.Prelude.{◌≡◌, count_by, length, nat_le};
 ghost use Rattle.std.specs.List.{list_all};
 ghost use Rattle.state_laws.specs.Resolution.{has_sign};
-ghost use Rattle.private_state.specs.Bounds.{are_few};
+ghost use Rattle.indexed_store.specs.Bounds.{are_few};
 
 use crate::resolve::has_sign;
 use rebuild_stack::Block;

@@ -1,4 +1,4 @@
-ghost use Rattle.std.specs.Prelude.{◌≡◌, filter, IfOk, OnOk, OnErr, IsTrue, IsFalse};
+ghost use Rattle.std.specs.Prelude.{◌≡◌, false, filter, IfOk, OnOk, OnErr, IsTrue, IsFalse};
 ghost use Rattle.clause_store.specs.Store.{IsKept};
 ghost use Rattle.var_maps.specs.Maps.{Matched, plain, retired};
 ghost use Rattle.state_laws.specs.State.{is_active};
@@ -36,7 +36,8 @@ impl PrivateState {
     /// Eliminates an active variable exactly where it meets the bound: at most 16 hard clauses hold
     /// it with each sign, and those of their resolvents that are no tautologies are not more than
     /// these clauses, and none has more than 32 literals (Eén and Biere, 2005). It tells whether it
-    /// did; else nothing changes. The only error is want of memory, and nothing changes then.
+    /// did; else nothing changes, and the variable is looked at again only where a hard clause that
+    /// holds it was added or dropped. The only error is want of memory, and nothing changes then.
     pub fn eliminate_within_bound(&mut self, var: Own) -> Result<bool, NoMemory>
         requires { IsTrue (is_active (state_of self.old) var.0) }
         ensures met { IfOk result (λ done. done ≡ meets_bound (state_of self.old) var.0) }
@@ -46,16 +47,41 @@ impl PrivateState {
         ensures left { IfOk result (λ done. IsFalse done → self.new ≡ self.old) }
         ensures err { OnErr result (plain_kernel self.new ≡ plain_kernel self.old) }
     {
+        if self.is_set_aside(var) {
+            return Ok(false);
+        }
         // Most variables go no further, so they cost no memory.
         if exceeds_bound(&self.maps, &self.store, var) {
+            self.set_aside(var);
             return Ok(false);
         }
         let taken = take_out(self.alloc, &self.maps, &self.store, var)?;
         let Some(fresh) = resolve_within_bound(self.alloc, &self.maps, &taken.block, var)? else {
+            self.set_aside(var);
             return Ok(false);
         };
         self.move_out(var, taken, fresh)?;
         Ok(true)
+    }
+
+    /// Whether an active variable is set aside: it did not meet the bound, and no hard clause that
+    /// holds it was added or dropped since.
+    fn is_set_aside(&self, var: Own) -> bool
+        requires { IsTrue (is_active (state_of self.now) var.0) }
+        ensures { IsTrue result → meets_bound (state_of self.now) var.0 ≡ false }
+    {
+        let inner = self.maps.to_inner(var).unwrap();
+        self.store.is_set_aside(inner)
+    }
+
+    /// Sets an active variable aside, which does not meet the bound.
+    fn set_aside(&mut self, var: Own)
+        requires active { IsTrue (is_active (state_of self.old) var.0) }
+        requires over { meets_bound (state_of self.old) var.0 ≡ false }
+        ensures { self.new ≡ self.old }
+    {
+        let inner = self.maps.to_inner(var).unwrap();
+        self.store.set_aside(inner);
     }
 
     /// Takes an active variable out, whose clauses and their resolvents are given.

@@ -7,7 +7,7 @@ ghost use Rattle.indexed_store.specs.Occurrences.{clauses_at};
 ghost use Rattle.var_maps.specs.Maps.{inner_at};
 ghost use Rattle.state_laws.specs.Held.{has_inner, own_clauses};
 ghost use Rattle.state_laws.specs.Resolution.{mentions};
-ghost use Rattle.private_state.specs.Bounds.{are_bounded};
+ghost use Rattle.indexed_store.specs.Bounds.{are_bounded};
 ghost use Rattle.private_state.specs.Pairs.{hard_at, holds_lit, is_apart, may_join, joins_right, count_right, count_pairs};
 
 use clause_store::ClauseStore;

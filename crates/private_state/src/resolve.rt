@@ -5,7 +5,7 @@ ghost use Rattle.rebuild_stack.specs.PutIn.{put_in};
 ghost use Rattle.rebuild_stack.specs.declared.entry.Root.TheVariants.{Last};
 ghost use Rattle.state_laws.specs.Held.{has_inner};
 ghost use Rattle.state_laws.specs.Resolution.{has_sign, without_var, rests, joins, resolvents};
-ghost use Rattle.private_state.specs.Bounds.{are_bounded};
+ghost use Rattle.indexed_store.specs.Bounds.{are_bounded};
 ghost use Rattle.removed_vars.specs.Fresh.{Stores};
 ghost use Rattle.private_state.specs.Resolving.{Clauses};
 
