@@ -5,3 +5,5 @@ pub mod Resolving
 pub mod Importing
 pub mod Exceeding
 pub mod Renaming
+pub mod Thinning
+pub mod Walking

@@ -8,3 +8,4 @@ pub mod MovingLaws
 pub mod Bounds
 pub mod Resolving
 pub mod Pairs
+pub mod RestoringLaws

@@ -1,11 +1,54 @@
-ghost use Rattle.std.specs.Prelude.{◌≡◌, OnOk, OnErr};
+ghost use Rattle.std.specs.Prelude.{◌≡◌, true, OnOk, OnErr};
+ghost use Rattle.std.specs.List.{list_any};
+ghost use Rattle.rebuild_stack.specs.Entries.{is_block_of};
 ghost use Rattle.state_laws.specs.Kernel.{state_of, Longer};
-ghost use Rattle.private_state.specs.Restoring.{CanRestore, Restores, CanRestoreAt, RestoresAt};
+ghost use Rattle.removed_vars.specs.Removed.{IsInOrder};
+ghost use Rattle.private_state.specs.Restoring.{CanRestore, Restores, CanRestoreAll, AreRestored, RestoresFew, AreGone, CanComeBack, ComesBack, SayTheSame};
 
 use crate::state::PrivateState;
-use rebuild_stack::Entry;
-use removed_vars::{hold_all, put_in_block};
+use indexed_store::IndexedStore;
+use rebuild_stack::{Block, Entry};
+use removed_vars::{RemovedVars, hold_block};
 use sat_lits::{NoMemory, Own};
+use std::alloc::Global;
+use var_maps::VarMaps;
+
+/// The clauses of the `Gone` entry of a variable.
+fn block_of<'a>(removed: &'a RemovedVars, var: Own) -> &'a Block
+    requires { list_any (is_block_of var) removed.now.entries ≡ true }
+    ensures { AreGone var removed.now.entries result.now }
+{
+    let at = removed.block_of(var).unwrap();
+    let Entry::Gone { clauses, .. } = &removed.stack().entries()[at] else {
+        unreachable!()
+    };
+    clauses
+}
+
+/// Makes an eliminated variable active, and holds the clauses of its entry as if no `Gone` entry of an
+/// active variable stood in the stack. The only error is want of memory, and no more than which inner
+/// numbers are free differs then.
+fn bring_back(
+    alloc: Global,
+    maps: &mut VarMaps,
+    store: &mut IndexedStore,
+    removed: &RemovedVars,
+    var: Own,
+) -> Result<(), NoMemory>
+    requires order { IsInOrder removed.now.entries }
+    requires back { CanComeBack var maps.old removed.now.entries }
+    ensures ok { OnOk result (ComesBack var removed.now.entries maps.old maps.new store.old store.new) }
+    ensures err { OnErr result (SayTheSame maps.old maps.new) }
+    ensures held { OnErr result (store.new.held ≡ store.old.held) }
+{
+    let block = block_of(removed, var);
+    maps.revive(var)?;
+    if let Err(error) = hold_block(alloc, removed, maps, store, block) {
+        maps.retire(var);
+        return Err(error);
+    }
+    Ok(())
+}
 
 impl PrivateState {
     /// Restores an eliminated variable: takes its `Gone` entry out of the stack, wherever it stands,
@@ -20,29 +63,40 @@ impl PrivateState {
         ensures err { OnErr result (state_of self.new ≡ state_of self.old) }
         ensures held { OnErr result (self.new.store.held ≡ self.old.store.held) }
     {
-        let at = self.removed.block_of(var).unwrap();
-        self.restore_at(at)
+        bring_back(
+            self.alloc,
+            &mut self.maps,
+            &mut self.store,
+            &self.removed,
+            var,
+        )?;
+        self.removed.take_out_active(&self.maps);
+        Ok(())
     }
 
-    /// Restores the variable of the `Gone` entry at a place of the stack.
-    fn restore_at(&mut self, at: usize) -> Result<(), NoMemory>
-        requires { CanRestoreAt (state_of self.old) at }
-        ensures ok { OnOk result (RestoresAt (state_of self.old) (state_of self.new) at) }
-        ensures ids { OnOk result (Longer self.old self.new) }
-        ensures err { OnErr result (state_of self.new ≡ state_of self.old) }
-        ensures held { OnErr result (self.new.store.held ≡ self.old.store.held) }
+    /// Restores eliminated variables one after another, each as `restore_one` does: so each can be
+    /// restored once those before it are. The only error is want of memory: then the first few of them
+    /// were restored. The stack is walked over once at the end, whatever the number of variables.
+    pub fn restore_all(&mut self, vars: &[Own]) -> Result<(), NoMemory>
+        requires { CanRestoreAll vars.now (state_of self.old) }
+        ensures ok { OnOk result (AreRestored vars.now (state_of self.old) (state_of self.new)) }
+        ensures err { OnErr result (RestoresFew vars.now (state_of self.old) (state_of self.new)) }
     {
-        let Entry::Gone { var, clauses } = &self.removed.stack().entries()[at] else {
-            unreachable!()
-        };
-        let var = *var;
-        let clauses = put_in_block(self.alloc, &self.removed, var, clauses)?;
-        self.maps.revive(var)?;
-        if let Err(error) = hold_all(self.alloc, &self.maps, &mut self.store, &clauses) {
-            self.maps.retire(var);
-            return Err(error);
+        let mut done = Ok(());
+        'each: for var in vars {
+            done = bring_back(
+                self.alloc,
+                &mut self.maps,
+                &mut self.store,
+                &self.removed,
+                *var,
+            );
+            if done.is_err() {
+                break 'each;
+            }
         }
-        self.removed.remove(at);
-        Ok(())
+        // After a refusal too: what came back is out of the stack.
+        self.removed.take_out_active(&self.maps);
+        done
     }
 }

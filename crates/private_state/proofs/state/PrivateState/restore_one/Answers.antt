@@ -1,27 +1,55 @@
-use Rattle.std.proofs.Common.{◌∙◌, ap, subst}
-use Rattle.std.proofs.lemmas.Result.{on_ok_weaker}
-use Rattle.std.specs.List.{list_any}
-use Rattle.rebuild_stack.specs.Entries.{is_block_of}
-use Rattle.state_laws.specs.Stands.{IsPlaced}
-use Rattle.state_laws.specs.Kernel.{Kernel, state_of}
+use Rattle.std.proofs.Common.{◌≡◌, ◌∙◌, List, sym, ap, subst}
+use Rattle.rebuild_stack.specs.declared.entry.Entry.{Entry}
+use Rattle.state_laws.specs.Kernel.{Kernel, Standing, state_of}
+use Rattle.state_laws.specs.ViewLaws.{same_state-Standing}
+use Rattle.removed_vars.specs.Removed.{Removed}
 use Rattle.private_state.specs.Kept.{kernel_of}
-use Rattle.private_state.proofs.Reviving.{can_block, can_at, restores_at, block_told, block_at}
+use Rattle.private_state.specs.MovingLaws.{in_order}
+use Rattle.private_state.specs.Restoring.{CanRestore, Restores}
+use Rattle.private_state.proofs.Reviving.{same_state}
+use Rattle.private_state.proofs.Thinning.{thinned, standing_thinned, can_back, came_back, back_stands}
 use Rattle.private_state.proofs.state.PrivateState.restore_one.Goals as goal
 
-pub unwrap-at-requires : goal.unwrap-at-requires
-unwrap-at-requires c =
-    block_told c.block_of.result (list_any (is_block_of c.args.var) c.self.inside.removed.entries) c.block_of.ensures.none
-    (ap (λ (k : Kernel). list_any (is_block_of c.args.var) k.stack) c.self.view_is ∙ can_block (state_of c.args.self.now) c.args.var c.requires)
+-- the kernel as it was is one in whose stack no such entry stands
+was : (k n : Kernel) → k ≡ n → Standing k → thinned k ≡ n
+was k n e h = standing_thinned k h ∙ e
 
-pub restore_at-requires : goal.restore_at-requires
-restore_at-requires c =
-    let placed : IsPlaced (state_of c.args.self.now) = subst (λ (k : Kernel). IsPlaced (state_of k)) c.self.view_is c.self.invariant.standing.stands.places in
-    can_at (state_of c.args.self.now) c.args.var c.unwrap-at.result placed c.requires
-    (block_at (kernel_of c.self.inside) c.args.self.now c.args.var c.block_of.result c.unwrap-at.result c.self.view_is c.unwrap-at.ensures c.block_of.ensures.entry)
+stands : (k : Kernel) → Standing k → Standing (thinned k)
+stands k h = subst (λ (z : Kernel). Standing z) (sym (standing_thinned k h)) h
+
+pub bring_back-requires-clause-back : goal.bring_back-requires-clause-back
+bring_back-requires-clause-back c =
+    let k : Kernel = kernel_of c.self.inside in
+    can_back k c.args.var (in_order k c.self.invariant.standing) (stands k c.self.invariant.standing)
+    (subst (λ (z : Kernel). CanRestore (state_of z) c.args.var) (sym (was k c.args.self.now c.self.view_is c.self.invariant.standing)) c.requires)
+
+pub invariant_of-self : goal.invariant_of-self
+invariant_of-self c =
+    let k : Kernel = kernel_of c.self.inside in
+    record {
+      standing = same_state-Standing k (record k { maps = c.bring_back.new.maps; store = c.bring_back.new.store }) (same_state k c.bring_back.new.maps c.bring_back.new.store c.in_err-bring_back.ensures.err c.in_err-bring_back.ensures.held)
+          c.in_err-bring_back.ensures.err.outers c.in_err-bring_back.ensures.err.outer_numbers c.self.invariant.standing;
+      vars = c.self.invariant.vars;
+    }
+
+-- its entry is out of the stack
+swept : (c : goal.After-take_out_active) → kernel_of (record c.self.inside { maps = c.bring_back.new.maps; store = c.bring_back.new.store; removed = c.take_out_active.new.self }) ≡ thinned (record (kernel_of c.self.inside) { maps = c.bring_back.new.maps; store = c.bring_back.new.store })
+swept c = ap (λ (s : List Entry). record (kernel_of c.self.inside) { maps = c.bring_back.new.maps; store = c.bring_back.new.store; stack = s }) (ap (λ (r : Removed). r.entries) c.take_out_active.ensures)
+
+pub invariant_of-self-2 : goal.invariant_of-self-2
+invariant_of-self-2 c =
+    let k : Kernel = kernel_of c.self.inside in
+    let r : CanRestore (state_of (thinned k)) c.args.var = subst (λ (z : Kernel). CanRestore (state_of z) c.args.var) (sym (was k c.args.self.now c.self.view_is c.self.invariant.standing)) c.requires in
+    record {
+      standing = subst (λ (z : Kernel). Standing z) (sym (swept c))
+          (back_stands k c.args.var (in_order k c.self.invariant.standing) (stands k c.self.invariant.standing) r c.bring_back.new.maps c.bring_back.new.store c.in_ok-bring_back.ensures.ok);
+      vars = ap (λ (r : Removed). r.vars) c.take_out_active.ensures ∙ c.self.invariant.vars;
+    }
 
 pub returns-clause-ok : goal.returns-clause-ok
 returns-clause-ok c =
-    on_ok_weaker c.restore_at.result
-    (restores_at (state_of c.args.self.now) (state_of c.restore_at.new.self) c.args.var c.unwrap-at.result
-    (block_at (kernel_of c.self.inside) c.args.self.now c.args.var c.block_of.result c.unwrap-at.result c.self.view_is c.unwrap-at.ensures c.block_of.ensures.entry))
-    c.restore_at.ensures.ok
+    let k : Kernel = kernel_of c.self.inside in
+    let r : CanRestore (state_of (thinned k)) c.args.var = subst (λ (z : Kernel). CanRestore (state_of z) c.args.var) (sym (was k c.args.self.now c.self.view_is c.self.invariant.standing)) c.requires in
+    subst (λ (z : Kernel). Restores (state_of c.args.self.now) (state_of z) c.args.var) (sym (swept c))
+    (subst (λ (z : Kernel). Restores (state_of z) (state_of (thinned (record k { maps = c.bring_back.new.maps; store = c.bring_back.new.store }))) c.args.var) (was k c.args.self.now c.self.view_is c.self.invariant.standing)
+    (came_back k c.args.var (in_order k c.self.invariant.standing) (stands k c.self.invariant.standing) r c.bring_back.new.maps c.bring_back.new.store c.in_ok-bring_back.ensures.ok))
