@@ -22,7 +22,8 @@ use Rattle.rebuild_stack.specs.declared.entry.Root.TheVariants.{Known, Last, Los
 use Rattle.state_laws.specs.State.{State, to_own}
 use Rattle.state_laws.specs.Kernel.{Kernel, state_of}
 use Rattle.restore_var.specs.Needs.{is_among, all_pass, leads_to, AreFree}
-use Rattle.restore_var.specs.Restored.{AreRestored, RestoresNeeded}
+use Rattle.private_state.specs.Restoring.{AreRestored}
+use Rattle.restore_var.specs.Restored.{RestoresNeeded}
 use Rattle.restore_var.specs.RestoredLaws.{restored_TookSame}
 use Rattle.one_solver.specs.Roots.{root_in, is_free, lost_var, last_var, lost_vars, last_vars}
 use Rattle.one_solver.specs.Settled.{OnlyPushed, CameBack}

@@ -1,4 +1,4 @@
-ghost use Rattle.std.specs.Prelude.{◌≡◌, ◌<◌, ◌↔◌, [], ◌∷◌, ◌++◌, Some, true, false, length, slice_get, remove, IsNone, IfSome, OnOk, OnErr};
+ghost use Rattle.std.specs.Prelude.{◌≡◌, ◌<◌, ◌↔◌, [], ◌∷◌, ◌++◌, Some, true, false, length, slice_get, IsNone, IfSome, OnOk, OnErr};
 ghost use Rattle.std.specs.List.{list_all, list_any};
 ghost use Rattle.std.specs.Fn.{CalledAt};
 ghost use Rattle.std.specs.List.Retain.{IsFiltered};
@@ -44,15 +44,6 @@ impl RebuildStack {
     {
         self.entries.push(entry)?;
         Ok(())
-    }
-
-    /// Takes out the entry at a place, counted from the oldest. The others close up.
-    pub fn remove(&mut self, at: usize) -> Entry
-        requires { at < length self.old }
-        ensures entry { slice_get self.old at ≡ Some result }
-        ensures rest { self.new ≡ remove self.old at }
-    {
-        self.entries.remove(at)
     }
 
     /// Takes out each entry that does not pass the test. The others close up. It takes no memory, and

@@ -94,7 +94,7 @@ fn a_fixed_literal_is_true(rt: HostRuntime) -> Result<(), Fail> {
 }
 
 #[test]
-fn entries_close_up_where_one_is_removed(rt: HostRuntime) -> Result<(), Fail> {
+fn entries_close_up_where_others_are_taken_out(rt: HostRuntime) -> Result<(), Fail> {
     let mut stack = RebuildStack::new(rt.alloc());
     for var in [0, 1, 0, 2] {
         stack.push(Entry::Gone {
@@ -105,22 +105,20 @@ fn entries_close_up_where_one_is_removed(rt: HostRuntime) -> Result<(), Fail> {
     stack.push(Entry::Fix(positive(1)))?;
     assert_eq!(rt; stack.block_of(Own(0)), Some(2));
     let rows = [
-        (2, [Some(0), Some(1), Some(2)], 0),
-        (1, [Some(0), None, Some(1)], 1),
-        (2, [Some(0), None, Some(1)], 1),
-        (0, [None, None, Some(0)], 0),
+        (3, [Some(2), Some(1), Some(3)], 5),
+        (1, [Some(1), None, Some(2)], 3),
+        (0, [None, None, Some(0)], 1),
     ];
-    for (at, places, var) in rows {
-        assert!(rt; at < stack.entries().len());
-        assert_eq!(rt; var_of(&stack.remove(at)), var);
+    for (gone, places, left) in rows {
+        stack.retain(|entry| var_of(entry) != gone);
         let found = [
             stack.block_of(Own(0)),
             stack.block_of(Own(1)),
             stack.block_of(Own(2)),
         ];
-        assert_eq!(rt; found, places, "after {at}");
+        assert_eq!(rt; found, places, "without {gone}");
+        assert_eq!(rt; stack.entries().len(), left);
     }
-    assert_eq!(rt; stack.entries().len(), 1);
     Ok(())
 }
 

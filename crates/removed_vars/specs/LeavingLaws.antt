@@ -1,16 +1,15 @@
 -- What is left of a stack where the `Gone` entries of some variables go.
-use Rattle.std.proofs.Common.{◌≡◌, ℕ, zero, suc, ◌+◌, ◌<◌, ◌≤◌, ◌==◌, Bool, true, false, cond, not, ◌&&◌, ◌||◌, List, [], ◌∷◌, ◌++◌, Option, Some, None, filter, refl, sym, ap, ◌∙◌, arith, length, take, drop, slice_get, remove, get_or, eqb-true, eq-eqb}
+use Rattle.std.proofs.Common.{◌≡◌, ℕ, zero, suc, ◌+◌, ◌<◌, ◌≤◌, ◌==◌, Bool, true, false, cond, not, ◌&&◌, ◌||◌, List, [], ◌∷◌, Some, filter, refl, sym, ap, ◌∙◌, arith, length, take, slice_get, remove, get_or, eqb-true, eq-eqb}
 use Rattle.std.proofs.lemmas.Bool.{or_parts, or_left, true≢false}
 use Rattle.std.proofs.lemmas.List.Folds.{list_any-append}
 use Rattle.std.specs.List.{list_any}
 use Rattle.sat_lits.specs.ListLaws.{any_get}
 use Rattle.sat_lits.specs.Truth.{signed}
-use Rattle.sat_lits.specs.declared.literal.Own.{Own}
 use Rattle.sat_lits.specs.declared.literal.OwnLit.{OwnLit}
 use Rattle.rebuild_stack.specs.CommonLaws.{cond_at}
 use Rattle.rebuild_stack.specs.Entries.{named, names, times_named}
 use Rattle.rebuild_stack.specs.Roots.{root, turned}
-use Rattle.rebuild_stack.specs.OrderLaws.{times_any, unnamed}
+use Rattle.rebuild_stack.specs.OrderLaws.{unnamed}
 use Rattle.rebuild_stack.specs.declared.entry.Entry.{Entry}
 use Rattle.rebuild_stack.specs.declared.entry.Entry.TheVariants.{Fix, Equal, Gone}
 use Rattle.rebuild_stack.specs.declared.entry.Root.{Root}

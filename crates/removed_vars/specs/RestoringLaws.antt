@@ -1,30 +1,25 @@
--- What the clauses of a restored variable come to, and the table of what became of variables where an entry is taken out.
-use Rattle.std.proofs.Common.{◌≡◌, get_or-set_same, get_or-set_other, ℕ, zero, suc, ◌+◌, ◌<◌, ◌≤◌, ◌==◌, ◌⊎◌, Bool, true, false, cond, ◌||◌, List, [], ◌∷◌, ◌++◌, Option, Some, None, refl, sym, ap, subst, ◌∙◌, ⊎_elim, arith, length, take, drop, slice_get, remove, fold, ap₂, set, get_or}
-use Rattle.std.proofs.lemmas.Bool.{and_parts, or_cases, eq-eqb, eqb-true, eqb-false}
+-- What the clauses of a restored variable come to.
+use Rattle.std.proofs.Common.{◌≡◌, ℕ, zero, suc, ◌+◌, ◌≤◌, ◌==◌, ◌⊎◌, Bool, true, false, cond, ◌||◌, List, [], ◌∷◌, ◌++◌, Option, Some, refl, sym, ap, subst, ◌∙◌, ⊎_elim, arith, take, drop, slice_get, fold, ap₂}
+use Rattle.std.proofs.lemmas.Bool.{and_parts, or_cases}
 use Rattle.std.proofs.lemmas.List.Elements.{filter_map-append}
 use Rattle.std.specs.List.{list_any, list_all, cons_option}
 use Rattle.sat_lits.specs.ListLaws.{any_get}
 use Rattle.sat_lits.specs.declared.literal.Own.{Own}
 use Rattle.sat_lits.specs.declared.literal.OwnLit.{OwnLit}
-use Rattle.rebuild_stack.specs.Entries.{named, names, times_named, ordered}
+use Rattle.rebuild_stack.specs.Entries.{names, times_named, ordered}
 use Rattle.rebuild_stack.specs.Roots.{root}
 use Rattle.rebuild_stack.specs.PutIn.{add_root, put_in, put_in_all}
 use Rattle.rebuild_stack.specs.CommonLaws.{cond_at}
 use Rattle.rebuild_stack.specs.RootLaws.{root_past, root_unnamed}
 use Rattle.rebuild_stack.specs.OrderLaws.{times_named-append, times_any, unnamed, ordered_newer}
 use Rattle.rebuild_stack.specs.declared.entry.Entry.{Entry}
-use Rattle.rebuild_stack.specs.declared.entry.Entry.TheVariants.{Fix, Equal, Gone}
+use Rattle.rebuild_stack.specs.declared.entry.Entry.TheVariants.{Gone}
 use Rattle.rebuild_stack.specs.declared.entry.Root.{Root}
 use Rattle.rebuild_stack.specs.declared.entry.Root.TheVariants.{Last, Lost}
 use Rattle.state_laws.specs.State.{State, is_active}
 use Rattle.state_laws.specs.Stands.{IsPlaced}
 use Rattle.state_laws.specs.PlaceLaws.{one_if, once_named}
 use Rattle.state_laws.specs.RestoreLaws.{split_at}
-use Rattle.state_laws.specs.RootTableLaws.{entry_of, entry_of-none}
-use Rattle.removed_vars.specs.Removed.{IsInOrder}
-use Rattle.removed_vars.specs.Statuses.{status_of}
-use Rattle.removed_vars.specs.declared.removed.Status.{Status}
-use Rattle.removed_vars.specs.declared.removed.Status.TheVariants.{Kept}
 use Rattle.removed_vars.specs.CollectLaws.{taken_some}
 
 -- clauses of literals that come to the same are the same
@@ -111,61 +106,6 @@ pub but_newer : (s : State) (at : ℕ) (v : Own) (cs : List (List OwnLit)) → s
 but_newer s at v cs entry h =
     let n : LooksNewer s at v cs = looks_newer s at v cs entry h in
     put_in_all_agree n.test (root_but v.0 s.stack) (root (drop (suc at) s.stack)) n.roots cs n.passes
-
--- an entry that is taken out is that of no other variable
-entry_of-others : (k : ℕ) (s : List Entry) (at : ℕ) (e : Entry) → slice_get s at ≡ Some e → names k e ≡ false → entry_of k (remove s at) ≡ entry_of k s
-entry_of-others k [] at e f n = cc
-entry_of-others k (x ∷ s) zero e f n = let same : x ≡ e = cc in sym (cond_at (names k x) (Some x) (entry_of k s) (ap (names k) same ∙ n))
-entry_of-others k (x ∷ s) (suc at) e f n = ap (λ o. cond (names k x) (Some x) o) (entry_of-others k s at e f n)
-
-times_others : (k : ℕ) (s : List Entry) (at : ℕ) (e : Entry) → slice_get s at ≡ Some e → names k e ≡ true → times_named k (remove s at) + 1 ≡ times_named k s
-times_others k [] at e f n = cc
-times_others k (x ∷ s) zero e f n = let same : x ≡ e = cc in let one : cond {A = ℕ} (names k x) 1 0 ≡ 1 = one_if _ (ap (names k) same ∙ n) in omega arith
-times_others k (x ∷ s) (suc at) e f n = let r : times_named k (remove s at) + 1 ≡ times_named k s = times_others k s at e f n in omega arith
-
--- and its own variable has none then
-entry_of-own : (k : ℕ) (s : List Entry) (at : ℕ) (e : Entry) → slice_get s at ≡ Some e → names k e ≡ true → times_named k s ≤ 1 → entry_of k (remove s at) ≡ None
-entry_of-own k s at e f n t =
-    let r : times_named k (remove s at) + 1 ≡ times_named k s = times_others k s at e f n in
-    entry_of-none k (remove s at) (unnamed k (remove s at) (omega arith))
-
--- the entry of a variable is found
-entry_found : (k : ℕ) (s : List Entry) (at : ℕ) (e : Entry) → slice_get s at ≡ Some e → names k e ≡ true → (x : Entry) × (entry_of k s ≡ Some x)
-entry_found k [] at e f n = cc
-entry_found k (x ∷ s) zero e f n = let same : x ≡ e = cc in (x, ap (λ b. cond b (Some x) (entry_of k s)) (ap (names k) same ∙ n))
-entry_found k (x ∷ s) (suc at) e f n = go (names k x) (entry_found k s at e f n)
-  where
-    go : (b : Bool) → ((y : Entry) × (entry_of k s ≡ Some y)) → (y : Entry) × (cond b (Some x) (entry_of k s) ≡ Some y)
-    go true r = (x, refl)
-    go false r = r
-
-told_within : (xs : List Status) (k : ℕ) (e : Entry) → get_or xs k Kept ≡ status_of (Some e) → k < length xs
-told_within [] k (Fix l) q = cc
-told_within [] k (Equal v l) q = cc
-told_within [] k (Gone v cs) q = cc
-told_within (x ∷ xs) zero e q = omega arith
-told_within (x ∷ xs) (suc k) e q = let l : k < length xs = told_within xs k e q in omega arith
-
--- a table has a place for the variable of each entry
-pub told : (xs : List Status) (s : List Entry) (at : ℕ) (e : Entry) → slice_get s at ≡ Some e → ((k : ℕ) → get_or xs k Kept ≡ status_of (entry_of k s)) → named e < length xs
-told xs s at e f h =
-    let (x, g) = entry_found (named e) s at e f (eq-eqb (named e) (named e) refl) in
-    told_within xs (named e) x (h (named e) ∙ ap status_of g)
-
--- a table that is written where an entry is taken out
-pub erased : (xs : List Status) (s : List Entry) (at : ℕ) (e : Entry) (i : ℕ) → slice_get s at ≡ Some e → i ≡ named e → IsInOrder s → ((k : ℕ) → get_or xs k Kept ≡ status_of (entry_of k s))
-    → (k : ℕ) → get_or (set xs i Kept) k Kept ≡ status_of (entry_of k (remove s at))
-erased xs s at e i f n o h k = go (k == named e) refl
-  where
-    once : times_named (named e) s ≤ 1
-    once = let c : times_named (named e) s + cond {A = ℕ} (o.active (named e)) 1 0 ≤ 1 = o.once (named e) in omega arith
-
-    go : (b : Bool) → (k == named e) ≡ b → get_or (set xs i Kept) k Kept ≡ status_of (entry_of k (remove s at))
-    go true q =
-        let here : i < length xs = let l : named e < length xs = told xs s at e f h in omega arith in
-        ap (λ (j : ℕ). get_or (set xs i Kept) j Kept) (eqb-true _ _ q ∙ sym n) ∙ (get_or-set_same xs i Kept Kept here
-        ∙ (ap status_of (sym (entry_of-own (named e) s at e f (eq-eqb (named e) (named e) refl) once)) ∙ ap (λ (j : ℕ). status_of (entry_of j (remove s at))) (sym (eqb-true _ _ q))))
-    go false q = get_or-set_other xs i k Kept Kept (λ z. eqb-false k (named e) q (z ∙ n)) ∙ (h k ∙ ap status_of (sym (entry_of-others k s at e f q)))
 
 -- what one clause more comes to
 pub put_more : (r : OwnLit → Root) (cs : List (List OwnLit)) (k : ℕ) (c : List OwnLit) → slice_get cs k ≡ Some c → put_in_all r (take (k + 1) cs) ≡ put_in_all r (take k cs) ++ put_in_all r (c ∷ [])

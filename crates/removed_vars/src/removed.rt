@@ -1,4 +1,4 @@
-ghost use Rattle.std.specs.Prelude.{◌≡◌, ℕ, ◌+◌, ◌<◌, ◌∷◌, ◌++◌, ◌↔◌, [], false, Some, length, remove, slice_index_or, IsNone, IfSome, OnOk, OnErr};
+ghost use Rattle.std.specs.Prelude.{◌≡◌, ℕ, ◌+◌, ◌<◌, ◌∷◌, ◌++◌, ◌↔◌, [], false, Some, slice_index_or, IsNone, IfSome, OnOk, OnErr};
 ghost use Rattle.std.specs.List.{list_any};
 ghost use Rattle.sat_lits.specs.Truth.{signed};
 ghost use Rattle.rebuild_stack.specs.Entries.{named, names, is_block_of};
@@ -142,17 +142,6 @@ impl RemovedVars {
         }
         self.statuses[var.0 as usize] = status;
         Ok(())
-    }
-
-    /// Takes out the entry at a place, counted from the oldest. The others close up.
-    pub fn remove(&mut self, at: usize)
-        requires there { at < length self.old.entries }
-        requires order { IsInOrder self.old.entries }
-        ensures { self.new ≡ record self.old { entries = remove self.old.entries at } }
-    {
-        let entry = self.stack.remove(at);
-        self.stamps.remove(at);
-        self.statuses[var_of(&entry).0 as usize] = Status::Kept;
     }
 
     /// Takes out each `Gone` entry whose variable is active. The others close up. It takes no memory,

@@ -47,13 +47,6 @@ impl Stamps {
         self.stamps.pop();
     }
 
-    /// Takes out the entry at a place.
-    pub(crate) fn remove(&mut self, at: usize) {
-        if at < self.stamps.len() {
-            self.stamps.remove(at);
-        }
-    }
-
     /// Numbers the entries anew, after some were taken out.
     pub(crate) fn number(&mut self, entries: &[Entry]) {
         self.stamps.truncate(entries.len());

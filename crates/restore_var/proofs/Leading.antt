@@ -12,7 +12,8 @@ use Rattle.rebuild_stack.specs.declared.entry.Entry.TheVariants.{Fix, Equal, Gon
 use Rattle.rebuild_stack.specs.declared.entry.Root.{Root}
 use Rattle.rebuild_stack.specs.declared.entry.Root.TheVariants.{Known, Last, Lost}
 use Rattle.state_laws.specs.PlaceLaws.{one_if}
-use Rattle.restore_var.specs.Needs.{stays, leads_to}
+use Rattle.removed_vars.specs.Restoring.{stays}
+use Rattle.restore_var.specs.Needs.{leads_to}
 
 -- no variable is named twice
 abbrev pub AreSingle : List Entry → Type 0

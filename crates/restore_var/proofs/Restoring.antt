@@ -1,11 +1,14 @@
 -- The stack while marked variables are restored, from its newest entry to its oldest.
-use Rattle.std.proofs.Common.{◌≡◌, ℕ, zero, suc, ◌+◌, ◌<◌, ◌≤◌, ◌==◌, Bool, true, false, cond, not, ◌&&◌, ◌||◌, List, [], ◌∷◌, ◌++◌, Option, Some, None, refl, sym, ap, ◌∙◌, arith, length, take, drop, slice_get, remove, filter, append_assoc, eq-eqb, eqb-true}
+use Rattle.std.proofs.Common.{◌≡◌, ℕ, zero, suc, ◌+◌, ◌<◌, ◌≤◌, ◌==◌, Bool, true, false, cond, not, ◌&&◌, ◌||◌, List, [], ◌∷◌, ◌++◌, Option, Some, None, refl, sym, ap, ◌∙◌, arith, length, take, drop, slice_get, remove, filter, append_assoc, append-nil, eq-eqb, eqb-true, Result, Ok, Err}
 use Rattle.std.proofs.lemmas.Bool.{and_from, or_parts}
 use Rattle.std.proofs.lemmas.Option.{slice_get_within}
+use Rattle.std.proofs.lemmas.List.{take_all, drop_all}
+use Rattle.std.specs.Prelude.{OnOk, OnErr}
 use Rattle.std.specs.List.{list_all, list_any}
-use Rattle.sat_lits.specs.ListLaws.{all_mono, both_all, all_get, all_push, all_or_any}
+use Rattle.sat_lits.specs.ListLaws.{all_mono, both_all, all_get, all_push, all_or_any, all_front}
 use Rattle.sat_lits.specs.declared.literal.Own.{Own}
 use Rattle.sat_lits.specs.declared.literal.OwnLit.{OwnLit}
+use Rattle.sat_lits.specs.declared.list.NoMemory.{NoMemory}
 use Rattle.rebuild_stack.specs.Entries.{names, is_block_of, times_named}
 use Rattle.rebuild_stack.specs.Roots.{root, is_lost}
 use Rattle.rebuild_stack.specs.CommonLaws.{cond_at}
@@ -20,10 +23,12 @@ use Rattle.state_laws.specs.PlaceLaws.{once_named}
 use Rattle.state_laws.specs.RestoreLaws.{split_at}
 use Rattle.removed_vars.specs.CollectLaws.{taken_some}
 use Rattle.removed_vars.specs.RestoringLaws.{LooksNewer, looks_newer, place_once}
-use Rattle.private_state.specs.Restoring.{CanRestore, Restores}
-use Rattle.restore_var.specs.Needs.{is_among, all_pass, none_gone, leads_to, clause_leads, block_leads, hands_on, is_closed, stays, marked_block, AreFree, AreNeeded}
-use Rattle.restore_var.specs.Restored.{RestoresMarked, RestoresNeeded}
-use Rattle.restore_var.specs.RestoredLaws.{restored_more, still_stands}
+use Rattle.removed_vars.specs.Restoring.{stays}
+use Rattle.private_state.specs.Restoring.{CanRestore, Restores, CanRestoreAll, AreRestored, RestoresFew}
+use Rattle.private_state.specs.RestoringLaws.{can_more, restored_before}
+use Rattle.restore_var.specs.Needs.{is_among, all_pass, none_gone, leads_to, clause_leads, block_leads, hands_on, is_closed, marked_block, AreFree, AreNeeded}
+use Rattle.restore_var.specs.Restored.{AreMarkedGone, RestoresMarked, RestoresNeeded}
+use Rattle.restore_var.specs.RestoredLaws.{still_stands}
 use Rattle.restore_var.proofs.Needing.{leads_mono}
 use Rattle.restore_var.proofs.Leading.{AreSingle, not_lost}
 
@@ -180,56 +185,63 @@ none_left m s vars e = all_mono (λ v. m v.0) (λ v. not (list_any (is_block_of 
 pub all_free : (m : ℕ → Bool) (s : State) (vars : List Own) → IsPlaced s → ((k : ℕ) → is_among vars k ≡ true → m k ≡ true) → AreFree vars s.stack (filter (stays m) s.stack)
 all_free m s vars h f l e = not_lost m s.stack l (single s h) (leads_mono (is_among vars) m f (root s.stack l) e)
 
--- the entry that is looked at stands at its place in both stacks
-record IsThere (s t : List Entry) (at : ℕ) : Type 0 where
+-- the entry that is looked at
+record IsThere (s : List Entry) (at : ℕ) : Type 0 where
   pub entry : Entry
-  pub before : slice_get s at ≡ Some entry
-  pub now : slice_get t at ≡ Some entry
+  pub here : slice_get s at ≡ Some entry
 
-there : (m : ℕ → Bool) (s t : List Entry) (at : ℕ) → at < length s → t ≡ half_restored m s (at + 1) → IsThere s t at
-there m s t at l e = go (slice_get s at) refl
-  where
-    none : (xs : List Entry) (i : ℕ) → i < length xs → slice_get xs i ≡ None → ⊥
-    none [] i n q = omega arith
-    none (x ∷ xs) zero n q = cc
-    none (x ∷ xs) (suc i) n q = none xs i (omega arith) q
+there : (s : List Entry) (at : ℕ) → at < length s → IsThere s at
+there [] at l = absurd (omega arith)
+there (x ∷ s) zero l = record { entry = x; here = refl }
+there (x ∷ s) (suc at) l = let e : IsThere s at = there s at (omega arith) in record { entry = e.entry; here = e.here }
 
-    go : (o : Option Entry) → slice_get s at ≡ o → IsThere s t at
-    go None q = absurd (none s at l q)
-    go (Some d) q = record { entry = d; before = q; now = ap (λ z. slice_get z at) (e ∙ half_at m s at d q) ∙ seam s at d (filter (stays m) (drop (suc at) s)) l }
-
--- where a walk down the stack has come: what stands at a place, and what was done
-pub record IsHalfway (m : ℕ → Bool) (s t : State) (k : ℕ) : Type 0 where
-  pub stack : t.stack ≡ half_restored m s.stack k
-  pub moves : RestoresMarked m s t
+-- where a walk down the stack has come: these can be restored, and what the stack is then
+pub record AreHalfway (m : ℕ → Bool) (s : State) (vars : List Own) (k : ℕ) : Type 0 where
+  pub can : CanRestoreAll vars s
+  pub marked : all_pass m vars ≡ true
+  pub left : (t : State) → AreRestored vars s t → t.stack ≡ half_restored m s.stack k
   pub within : k ≤ length s.stack
 
--- a marked variable can be restored
-pub next_can : (m : ℕ → Bool) (s t : State) (at : ℕ) (v : Own) → Stands s → is_closed m s.stack ≡ true → IsHalfway m s t (at + 1) → ((e : Entry) → slice_get t.stack at ≡ Some e → Some v ≡ marked_block m e) → CanRestore t v
-next_can m s t at v h c w o =
-    let l : at + 1 ≤ length s.stack = w.within in
-    let e : IsThere s.stack t.stack at = there m s.stack t.stack at (omega arith) w.stack in
-    let g : IsMarkedAt m e.entry v = marked_is m e.entry v (o e.entry e.now) in
-    can_restore s t at v g.clauses m h.places (e.before ∙ ap (λ (z : Entry). let x : Option Entry = Some z in x) g.entry) c g.marked w.stack
+-- at first nothing is restored
+pub none_listed : (m : ℕ → Bool) (s : State) → AreHalfway m s [] (length s.stack)
+none_listed m s = record { can = tt; marked = refl; left = λ t a. ap (λ (z : State). z.stack) a ∙ sym whole; within = omega arith }
+  where
+    whole : half_restored m s.stack (length s.stack) ≡ s.stack
+    whole =
+        ap (λ z. z ++ filter (stays m) (drop (length s.stack) s.stack)) (take_all (length s.stack) s.stack (omega arith))
+        ∙ (ap (λ z. s.stack ++ filter (stays m) z) (drop_all (length s.stack) s.stack (omega arith)) ∙ append-nil s.stack)
 
--- and the walk goes on where it was
-pub next_gone : (m : ℕ → Bool) (s t u : State) (at : ℕ) (v : Own) → Stands s → IsHalfway m s t (at + 1) → ((e : Entry) → slice_get t.stack at ≡ Some e → Some v ≡ marked_block m e) → Restores t u v → IsHalfway m s u at
-next_gone m s t u at v h w o r =
+-- a marked variable is listed
+pub next_listed : (m : ℕ → Bool) (s : State) (vars : List Own) (at : ℕ) (v : Own) → Stands s → is_closed m s.stack ≡ true → AreHalfway m s vars (at + 1) → ((e : Entry) → slice_get s.stack at ≡ Some e → Some v ≡ marked_block m e) → AreHalfway m s (vars ++ v ∷ []) at
+next_listed m s vars at v h c w o =
     let l : at + 1 ≤ length s.stack = w.within in
-    let e : IsThere s.stack t.stack at = there m s.stack t.stack at (omega arith) w.stack in
-    let g : IsMarkedAt m e.entry v = marked_is m e.entry v (o e.entry e.now) in
+    let e : IsThere s.stack at = there s.stack at (omega arith) in
+    let g : IsMarkedAt m e.entry v = marked_is m e.entry v (o e.entry e.here) in
+    let f : slice_get s.stack at ≡ Some (Gone v g.clauses) = e.here ∙ ap (λ (z : Entry). let x : Option Entry = Some z in x) g.entry in
     record {
-      stack = half_gone s t u at v g.clauses m (still_stands w.moves.restored s t w.moves.moves h).places (e.before ∙ ap (λ (z : Entry). let x : Option Entry = Some z in x) g.entry) g.marked w.stack r;
-      moves = record { restored = w.moves.restored ++ v ∷ []; moves = restored_more w.moves.restored s t u v w.moves.moves r; marked = all_push (λ (x : Own). m x.0) w.moves.restored v w.moves.marked g.marked };
+      can = can_more vars s v w.can (λ t a. can_restore s t at v g.clauses m h.places f c g.marked (w.left t a));
+      marked = all_push (λ (x : Own). m x.0) vars v w.marked g.marked;
+      left = λ u a.
+          let (t, b) = restored_before vars s u v a in
+          half_gone s t u at v g.clauses m (still_stands vars s t b.0 h).places f g.marked (w.left t b.0) b.1;
       within = omega arith;
     }
 
--- where no marked variable stands, nothing is done
-pub next_kept : (m : ℕ → Bool) (s t : State) (at : ℕ) → IsHalfway m s t (at + 1) → ((e : Entry) → slice_get t.stack at ≡ Some e → None ≡ marked_block m e) → IsHalfway m s t at
-next_kept m s t at w o =
+-- where no marked variable stands, none is
+pub next_kept : (m : ℕ → Bool) (s : State) (vars : List Own) (at : ℕ) → AreHalfway m s vars (at + 1) → ((e : Entry) → slice_get s.stack at ≡ Some e → None ≡ marked_block m e) → AreHalfway m s vars at
+next_kept m s vars at w o =
     let l : at + 1 ≤ length s.stack = w.within in
-    let e : IsThere s.stack t.stack at = there m s.stack t.stack at (omega arith) w.stack in
-    record { stack = w.stack ∙ half_kept m s.stack at e.entry e.before (o e.entry e.now); moves = w.moves; within = omega arith }
+    let e : IsThere s.stack at = there s.stack at (omega arith) in
+    record { can = w.can; marked = w.marked; left = λ t a. w.left t a ∙ half_kept m s.stack at e.entry e.here (o e.entry e.here); within = omega arith }
+
+-- in the end all are listed
+pub all_listed : (m : ℕ → Bool) (s : State) (vars : List Own) → AreHalfway m s vars 0 → AreMarkedGone m s vars
+all_listed m s vars w = record { can = w.can; marked = w.marked; left = w.left }
+
+-- none was restored but marked ones, whether or not it was all
+pub marked_moves : (m : ℕ → Bool) (s t : State) (vars : List Own) (r : Result (Unit {0}) NoMemory) → AreMarkedGone m s vars → OnOk r (AreRestored vars s t) → OnErr r (RestoresFew vars s t) → RestoresMarked m s t
+marked_moves m s t vars (Ok u) g a b = record { restored = vars; moves = a; marked = g.marked }
+marked_moves m s t vars (Err x) g a b = record { restored = take b.count vars; moves = b.moves; marked = all_front (λ (v : Own). m v.0) b.count vars g.marked }
 
 -- none of the variables is eliminated where no test finds one
 pub none_found : (r : Bool) (s : List Entry) (vars : List Own) → r ≡ false → r ≡ list_any (λ v. list_any (is_block_of v) s) vars → none_gone s vars ≡ true

@@ -1,10 +1,10 @@
 -- What the clauses of eliminated variables need.
-use Rattle.std.specs.Prelude.{◌≡◌, ℕ, ◌==◌, Bool, true, false, not, ◌&&◌, ◌||◌, List, Some, None, cond}
+use Rattle.std.specs.Prelude.{◌≡◌, ℕ, ◌==◌, Bool, true, false, not, ◌||◌, List, Some, None, cond}
 use Rattle.std.specs.declared.option.Option.{Option}
 use Rattle.std.specs.List.{list_all, list_any}
 use Rattle.sat_lits.specs.declared.literal.Own.{Own}
 use Rattle.sat_lits.specs.declared.literal.OwnLit.{OwnLit}
-use Rattle.rebuild_stack.specs.Entries.{named, is_gone, is_block_of}
+use Rattle.rebuild_stack.specs.Entries.{is_block_of}
 use Rattle.rebuild_stack.specs.Roots.{root, is_lost}
 use Rattle.rebuild_stack.specs.declared.entry.Entry.{Entry}
 use Rattle.rebuild_stack.specs.declared.entry.Entry.TheVariants.{Fix, Equal, Gone}
@@ -58,10 +58,6 @@ pub record GrowsFor (needs : (ℕ → Bool) → Bool) (from to : ℕ → Bool) :
   pub grows : (k : ℕ) → from k ≡ true → to k ≡ true
   pub met : needs to ≡ true
   pub least : (p : ℕ → Bool) → ((k : ℕ) → from k ≡ true → p k ≡ true) → needs p ≡ true → (k : ℕ) → to k ≡ true → p k ≡ true
-
--- whether an entry stays where the `Gone` entries of marked variables go
-abbrev pub stays : (ℕ → Bool) → Entry → Bool
-stays m e = not (is_gone e && m (named e))
 
 -- the variable of an entry, where the entry does not stay
 abbrev pub marked_block : (ℕ → Bool) → Entry → Option Own

@@ -1,14 +1,16 @@
 -- Variables that were restored one after another.
-use Rattle.std.specs.Prelude.{◌≡◌, ℕ, Bool, true, List, [], ◌∷◌}
+use Rattle.std.specs.Prelude.{◌≡◌, ℕ, Bool, true, List, filter}
 use Rattle.sat_lits.specs.declared.literal.Own.{Own}
 use Rattle.state_laws.specs.State.{State}
-use Rattle.private_state.specs.Restoring.{Restores}
+use Rattle.removed_vars.specs.Restoring.{stays}
+use Rattle.private_state.specs.Restoring.{CanRestoreAll, AreRestored}
 use Rattle.restore_var.specs.Needs.{all_pass, is_closed}
 
--- from one state to the other these variables were restored, in order, and nothing else was done
-abbrev pub AreRestored : List Own → State → State → Type 0
-AreRestored [] s t = t ≡ s
-AreRestored (v ∷ vs) s t = (m : State) × (Restores s m v × AreRestored vs m t)
+-- these are the marked variables that are eliminated, in an order in which they can be restored one after another; where that is done, none of their entries is left
+pub record AreMarkedGone (m : ℕ → Bool) (s : State) (vars : List Own) : Type 0 where
+  pub can : CanRestoreAll vars s
+  pub marked : all_pass m vars ≡ true
+  pub left : (t : State) → AreRestored vars s t → t.stack ≡ filter (stays m) s.stack
 
 -- variables were restored, all of which are marked
 pub record RestoresMarked (m : ℕ → Bool) (s t : State) : Type 0 where

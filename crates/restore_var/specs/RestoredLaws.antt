@@ -1,5 +1,5 @@
 -- What stays where variables are restored one after another.
-use Rattle.std.proofs.Common.{◌≡◌, List, [], ◌∷◌, ◌++◌, refl, sym, ap, subst, ◌∙◌}
+use Rattle.std.proofs.Common.{◌≡◌, List, [], ◌∷◌, sym, ap, subst, ◌∙◌}
 use Rattle.sat_lits.specs.declared.literal.Own.{Own}
 use Rattle.state_laws.specs.State.{State}
 use Rattle.state_laws.specs.Moves.{restored}
@@ -8,13 +8,7 @@ use Rattle.state_laws.specs.RestoreLaws.{restored-Stands}
 use Rattle.state_laws.specs.Kernel.{Kernel, state_of, TookSame}
 use Rattle.sync_laws.specs.Met.{KeepsMet}
 use Rattle.sync_laws.specs.KeepLaws.{keeps_same, keeps_as, keeps_trans, restored-KeepsMet}
-use Rattle.private_state.specs.Restoring.{Restores}
-use Rattle.restore_var.specs.Restored.{AreRestored}
-
--- one variable more is restored
-pub restored_more : (vs : List Own) (s t u : State) (v : Own) → AreRestored vs s t → Restores t u v → AreRestored (vs ++ v ∷ []) s u
-restored_more [] s t u v a r = (u, (subst (λ (z : State). Restores z u v) a r, refl))
-restored_more (w ∷ vs) s t u v a r = (a.0, (a.1.0, restored_more vs a.0 t u v a.1.1 r))
+use Rattle.private_state.specs.Restoring.{Restores, AreRestored}
 
 -- the state stands
 one_stands : (s t : State) (v : Own) → Restores s t v → Stands s → Stands t
