@@ -86,7 +86,8 @@ fn eliminate_unless(state: &mut PrivateState, left: &[bool], var: Own) -> Result
 
 /// Eliminates active variables that meet the bound, one after another, and tells how many (Eén and
 /// Biere, 2005): none that is frozen, and none that the solver `kept_by` keeps. It looks at each
-/// variable once. Where none is eliminated, no other active variable meets the bound; else another
+/// variable once, and in a later call at one that is left only where a hard clause that holds it was
+/// added or dropped. Where none is eliminated, no other active variable meets the bound; else another
 /// call may find more. The only error is want of memory, and some may be eliminated then.
 pub fn eliminate_some(
     alloc: Global,
