@@ -77,10 +77,10 @@ impl SyncBook {
     /// Tries the waiting entries again, reads the log from the cursor to its end, and offers each
     /// fixed literal and each learned clause of two literals whose variables are the caller's. So
     /// the solver's own new entries are read by its next call. The log is legal for the items taken,
-    /// and the book with the state is in step with it. It has each of these clauses then, and each
-    /// that was added to the log, so that the next call need not look them up. The only error is want
-    /// of memory: the cursor then stands at the first entry that was neither taken nor put among the
-    /// waiting ones, and the book has what was added.
+    /// and the book with the state is in step with it. Then the book has each of these clauses, and
+    /// each that was added to the log, so that the next call need not look them up. The only error is
+    /// want of memory: the cursor then stands at the first entry that was neither taken nor put among
+    /// the waiting ones, and the book has what was added.
     pub fn sync(
         &mut self,
         state: &mut PrivateState,
