@@ -54,7 +54,7 @@ def main():
     done = subprocess.run([str(PROGRAM)], input=text(questions), stdout=subprocess.PIPE, text=True)
     after = resource.getrusage(resource.RUSAGE_CHILDREN)
     verdicts = [line for line in done.stdout.splitlines() if line.startswith("s ")]
-    # The text ends in a question, so the end asks no further one.
+    # The end of the text asks once more.
     if len(verdicts) < questions or any(line != SATISFIABLE_LINE for line in verdicts):
         fail(f"{len(verdicts)} verdicts, not all of them as planted")
     seconds = after.ru_utime + after.ru_stime - before.ru_utime - before.ru_stime
