@@ -10,8 +10,8 @@ use Rattle.sat_lits.specs.declared.literal.Lit.{Lit}
 use Rattle.sat_api.specs.Answers.{HasModelUnder, is_refutation}
 use Rattle.sat_api.specs.Decisions.{IsFound}
 use Rattle.sat_api.specs.Laws.{makes_true-StandAt}
-use Rattle.sat_api.specs.declared.decide.Finding.{Finding}
-use Rattle.sat_api.specs.declared.decide.Finding.TheVariants as decision
+use Rattle.race.specs.declared.answer.RaceAnswer.{RaceAnswer}
+use Rattle.race.specs.declared.answer.RaceAnswer.TheVariants as answer
 
 -- where not all of some literals are true, one of their negations is
 one_false : (values : List Bool) (lits : List Lit) → makes_true values lits ≡ false → satisfies_clause values (map negated lits) ≡ true
@@ -27,9 +27,10 @@ pub negated_follow : (f : Problem) (assumptions failed : List Lit) → IsFailed 
 negated_follow f assumptions failed h values m = one_false values failed (h.contradict values m)
 
 -- failed assumptions that were found, in a verdict that was found
-pub found_failed : (f : Problem) (assumptions : List Lit) (limit : Option ℕ) (conflicts before now : ℕ) (found : Finding) (verdict : Verdict) (failed : List Lit) → found ≡ decision.Verdict verdict → verdict ≡ Unsat failed → IsFound f assumptions limit conflicts before now found → IsFailed f assumptions failed
-found_failed f assumptions limit conflicts before now found verdict failed e v h =
-    let P : Finding → Type 0 = λ x. IsFound f assumptions limit conflicts before now x in
+pub found_failed : (f : Problem) (assumptions : List Lit) (limit : Option ℕ) (threads counted_before counted_now before now : ℕ) (found : RaceAnswer) (verdict : Verdict) (failed : List Lit) → found ≡ answer.Verdict verdict → verdict ≡ Unsat failed
+    → IsFound f assumptions limit threads counted_before counted_now before now found → IsFailed f assumptions failed
+found_failed f assumptions limit threads counted_before counted_now before now found verdict failed e v h =
+    let P : RaceAnswer → Type 0 = λ x. IsFound f assumptions limit threads counted_before counted_now before now x in
     let Q : Verdict → Type 0 = λ x. IsRight f assumptions x in
     subst Q v (subst P e h)
 

@@ -1,5 +1,5 @@
 -- What an answer says.
-use Rattle.std.specs.Prelude.{◌≡◌, ℕ, ◌<◌, ◌≤◌, Bool, true, false, cond, List, [], ◌∷◌, map, Some, None}
+use Rattle.std.specs.Prelude.{◌≡◌, ◌⊎◌, ℕ, ◌<◌, ◌≤◌, ◌&&◌, Bool, true, false, not, cond, List, [], ◌∷◌, All, length, map, sum, count_by, nat_eq, Some, None}
 use Rattle.std.specs.declared.option.Option.{Option}
 use Rattle.std.specs.Option.{ForSome}
 use Rattle.sat_lits.specs.Conflicts.{own_count, enough}
@@ -7,10 +7,13 @@ use Rattle.sat_lits.specs.Meaning.{Problem, IsModel, negated}
 use Rattle.sat_ports.specs.Causes.{Rose, RoseBy}
 use Rattle.sat_lits.specs.Verdicts.{makes_true, IsRight}
 use Rattle.sat_lits.specs.declared.literal.Lit.{Lit}
+use Rattle.sat_lits.specs.declared.shared.Shared.{Shared}
 use Rattle.sat_lits.specs.declared.verdict.Verdict.TheVariants as verdict
 use Rattle.sat_api.specs.declared.solver.Cause.TheVariants.{Limit, Alarm}
 use Rattle.sat_api.specs.declared.solver.Answer.{Answer}
 use Rattle.sat_api.specs.declared.solver.Answer.TheVariants.{Sat, Unsat, Unknown}
+use Rattle.one_solver.specs.Parts.{Parts, problem_in}
+use Rattle.race.specs.Homes.{EachPlace, IsSettledHome}
 use Rattle.sat_api.specs.State.{SolverState}
 
 -- a model that makes every assumption true is left to be read
@@ -27,13 +30,18 @@ pub record TellsConflict (f : Problem) (assumptions : List Lit) (new : SolverSta
   pub conflict : new.conflict ≡ Some (map negated failed)
   pub right : IsRight f assumptions (verdict.Unsat failed)
 
--- the one solver counted the conflict limit, which is less than enough, and nothing is left to be read
-pub record TellsLimit (old new : SolverState) (counts : List ℕ) : Type 0 where
+-- every solver counted the conflict limit that was given, which is less than enough, and the sum of their counts was added to what was counted
+pub record SpendsAll (given : Option ℕ) (f : Problem) (threads before now : ℕ) (counts : List ℕ) : Type 0 where
   pub limit : ℕ
-  pub is_limit : old.max_conflicts ≡ Some limit
-  pub one : counts ≡ limit ∷ []
-  pub few : limit < enough (own_count old.problem)
-  pub rose : RoseBy limit old.counted new.counted
+  pub is_limit : given ≡ Some limit
+  pub many : length counts ≡ threads
+  pub each : All (λ count. count ≡ limit) counts
+  pub few : limit < enough (own_count f)
+  pub rose : RoseBy (sum counts) before now
+
+-- every solver spent the conflict limit, and nothing is left to be read
+pub record TellsLimit (old new : SolverState) (counts : List ℕ) : Type 0 where
+  pub spent : SpendsAll old.max_conflicts old.problem old.threads old.counted new.counted counts
   pub model : new.model ≡ None
   pub conflict : new.conflict ≡ None
 
@@ -84,6 +92,32 @@ is_refutation (Some (l ∷ lits)) = false
 abbrev pub KeepsOkay : SolverState → SolverState → Type 0
 KeepsOkay old new = new.okay ≡ cond (is_refutation new.conflict) false old.okay
 
--- a solver that is not okay answers at once that the items contradict each other
-abbrev pub AnswersAtOnce : SolverState → SolverState → Answer → Type 0
-AnswersAtOnce old new answer = old.okay ≡ false → (answer ≡ Unsat) × (new.conflict ≡ Some []) × (new.counted ≡ old.counted)
+-- a solver that is not okay answers at once that the items contradict each other, without its solvers
+pub record AnswersAtOnce (old new : SolverState) (answer : Answer) : Type 0 where
+  pub answer_is : answer ≡ Unsat
+  pub conflict : new.conflict ≡ Some []
+  pub counted : new.counted ≡ old.counted
+  pub solvers : new.solvers ≡ old.solvers
+  pub shared : new.shared ≡ old.shared
+  pub given_up : new.given_up ≡ 0
+
+-- whether a solver took the whole formula
+abbrev pub has_taken : Problem → Parts → Bool
+has_taken f s = nat_eq (problem_in s).vars f.vars && nat_eq (length (problem_in s).items) (length f.items)
+
+-- a solver without its conflicts
+abbrev pub poured : Parts → Parts
+poured s = record s { conflicts = 0 }
+
+-- Before their conflicts were poured, each of these solvers took the whole formula and was settled with the shared clauses, or was a new one
+-- in the place of one that ran out of memory, and none made more conflicts than the limit.
+pub record AreSettled (limit : Option ℕ) (f : Problem) (shared : List Shared) (solvers : List Parts) : Type 0 where
+  pub raced : List Parts
+  pub are_poured : solvers ≡ map poured raced
+  pub each : EachPlace (IsSettledHome limit f shared) raced
+
+-- The solvers are settled with the shared clauses, and those that ran out of memory are counted.
+pub record Settles (old new : SolverState) : Type 0 where
+  pub many : (new.solvers ≡ []) ⊎ (length new.solvers ≡ old.threads)
+  pub settled : AreSettled old.max_conflicts old.problem new.shared new.solvers
+  pub given_up : new.given_up ≡ count_by (λ s. not (has_taken old.problem s)) new.solvers

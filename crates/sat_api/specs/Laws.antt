@@ -41,5 +41,5 @@ too_few m n h k = omega arith
 pub Answers-completes : (old new : SolverState) (assumptions : List Lit) (raised_before raised_now : ℕ) (answer : Answer) → Answers old new assumptions raised_before raised_now answer → Completes old raised_before raised_now answer
 Answers-completes old new assumptions raised_before raised_now Sat told has quiet = tt
 Answers-completes old new assumptions raised_before raised_now Unsat told has quiet = tt
-Answers-completes old new assumptions raised_before raised_now (Unknown (Limit counts)) told has quiet = too_few told.limit (enough (own_count old.problem)) told.few (has told.limit told.is_limit)
+Answers-completes old new assumptions raised_before raised_now (Unknown (Limit counts)) told has quiet = too_few told.spent.limit (enough (own_count old.problem)) told.spent.few (has told.spent.limit told.spent.is_limit)
 Answers-completes old new assumptions raised_before raised_now (Unknown Alarm) told has quiet = quiet told.rose

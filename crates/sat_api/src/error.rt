@@ -13,6 +13,13 @@ pub enum ApiError {
     /// There would be more literals than the limit.
     #[error("TooManyLits")]
     TooManyLits,
+    /// The number of threads was to be set once there was a variable or an item, or a question was
+    /// asked.
+    #[error("TooLate")]
+    TooLate,
+    /// There is no thread in this number, or more than the limit.
+    #[error("BadCount")]
+    BadCount,
     /// Memory ran out.
     #[error("Memory")]
     Memory,

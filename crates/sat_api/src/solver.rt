@@ -1,18 +1,22 @@
-ghost use Rattle.std.specs.Prelude.{◌≡◌, ◌≢◌, ◌+◌, ◌<◌, ◌≤◌, ◌^◌, ◌↔◌, ◌⊎◌, ℕ, [], false, Some, None, Err, length, IfOk, IfErr, IfSome, OnOk, OnErr, IsTrue};
+ghost use Rattle.std.specs.Prelude.{◌≡◌, ◌+◌, ◌<◌, ◌≤◌, ◌^◌, ◌↔◌, ◌⊎◌, ℕ, [], All, false, true, Some, None, Err, length, IfOk, IfErr, IfSome, OnOk, OnErr, IsTrue};
 ghost use Rattle.std.specs.Option.{option_copied};
 ghost use Rattle.sat_lits.specs.declared.formula.Item.TheVariants.{Clause, Parity};
 ghost use Rattle.sat_lits.specs.Limits.{standard_limits};
+ghost use Rattle.sat_lits.specs.Logs.{IsLegalLog};
 ghost use Rattle.sat_lits.specs.Meaning.{IsModel, Follows};
 ghost use Rattle.sat_lits.specs.Formulas.{with_vars, with_item, first_unknown, numbers_of, names_known, lit_count};
-ghost use Rattle.sat_api.specs.State.{new_solver, unanswered, with_problem, Keeps};
-ghost use Rattle.sat_api.specs.Answers.{Answers, Decides, Completes, KeepsOkay, AnswersAtOnce, is_refutation};
+ghost use Rattle.sat_api.specs.State.{new_solver, unanswered, with_problem, IsCount, HasBegun, Keeps};
+ghost use Rattle.sat_api.specs.Answers.{Answers, Decides, Completes, KeepsOkay, AnswersAtOnce, Settles, is_refutation};
 
-use crate::decide::{Finding, decide};
+use crate::compete::compete;
 use crate::error::ApiError;
+use crate::solvers::{count_lost, new_solvers};
 use analyze::Tally;
 use one_solver::OneSolver;
-use sat_lits::{Formula, Limits, List, Lit, NoMemory, Var, Verdict};
+use race::RaceAnswer;
+use sat_lits::{Formula, Limits, List, Lit, NoMemory, Shared, Var, Verdict};
 use sat_ports::Alarm;
+use share_store::Store;
 use std::alloc::Global;
 use std::marker::Model;
 use std::thread::Threads;
@@ -38,17 +42,24 @@ pub enum Answer {
     Unknown(Cause),
 }
 
-/// A solver: variables, clauses and parities over them, within limits, and what the latest call
-/// answered.
+/// A solver: variables, clauses and parities over them, within limits, the clauses that its threads
+/// share, and what the latest call answered.
 ///
 /// A call that is refused changes nothing, except that a `solve` which runs out of memory drops
 /// the earlier answer.
 #[derive(Debug, Drop)]
 pub struct SatSolver {
     alloc: Global,
+    limits: Limits,
     formula: Formula,
-    solver: OneSolver,
+    threads: u32,
     max_conflicts: Option<u64>,
+    // Whether a question was asked.
+    begun: bool,
+    // One for each thread, from the first question on.
+    solvers: Vec<OneSolver>,
+    store: Store,
+    given_up: u32,
     tally: Tally,
     model: Option<List<bool>>,
     conflict: Option<List<Lit>>,
@@ -68,28 +79,56 @@ impl Model for SatSolver {
 }
 
 impl SatSolver {
-    /// No variables and no items, with the standard limits and no conflict limit. It takes no
-    /// memory.
+    /// No variables and no items, with the standard limits, one thread and no conflict limit. It
+    /// takes no memory.
     pub fn new(alloc: Global) -> SatSolver
         ensures { result ≡ new_solver standard_limits }
     {
         SatSolver::with_limits(alloc, Limits::standard())
     }
 
-    /// No variables and no items, with these limits and no conflict limit. It takes no memory.
+    /// No variables and no items, with these limits, one thread and no conflict limit. It takes no
+    /// memory.
     pub fn with_limits(alloc: Global, limits: Limits) -> SatSolver
         ensures { result ≡ new_solver limits }
     {
         SatSolver {
             alloc,
+            limits,
             formula: Formula::new(alloc, limits),
-            solver: OneSolver::new(alloc, 0),
+            threads: 1,
             max_conflicts: None,
+            begun: false,
+            solvers: Vec::new(alloc),
+            store: Store::new(alloc),
+            given_up: 0,
             tally: Tally::new(),
             model: None,
             conflict: None,
             okay: true,
         }
+    }
+
+    /// Sets the number of threads that search in each `solve`, each with a solver of its own.
+    ///
+    /// `BadCount` comes exactly where the number is 0 or greater than the limit, and `TooLate` exactly
+    /// where else there is a variable or an item, or a `solve` was not refused for a variable.
+    pub fn set_num_threads(&mut self, threads: u32) -> Result<(), ApiError>
+        ensures ok { OnOk result (self.new ≡ record self.old { threads = threads }) }
+
+        ensures bad_count { (result ≡ Err ApiError.BadCount) ↔ ((threads ≡ 0) ⊎ (self.old.limits.threads < threads)) }
+        ensures too_late { (result ≡ Err ApiError.TooLate) ↔ (IsCount self.old.limits threads × HasBegun self.old) }
+        ensures only { IfErr result (λ e. (e ≡ ApiError.BadCount) ⊎ (e ≡ ApiError.TooLate)) }
+        ensures err { OnErr result (self.new ≡ self.old) }
+    {
+        if threads == 0 || threads > self.limits.threads() {
+            return Err(ApiError::BadCount);
+        }
+        if self.begun || self.formula.vars() > 0 || !self.formula.items().is_empty() {
+            return Err(ApiError::TooLate);
+        }
+        self.threads = threads;
+        Ok(())
     }
 
     /// Adds `by` variables. `TooManyVars` comes exactly where there would be more than the limit.
@@ -121,9 +160,11 @@ impl SatSolver {
         ensures too_many_lits { (result ≡ Err ApiError.TooManyLits)
             ↔ ((first_unknown self.old.problem.vars (numbers_of (Clause lits.now)) ≡ None)
             × (self.old.limits.lits < lit_count self.old.problem.items + length lits.now)) }
-        ensures no_other { result ≢ Err ApiError.TooManyVars }
+        ensures only { IfErr result (λ e. (e ≡ ApiError.Memory) ⊎ (e ≡ ApiError.TooManyLits) ⊎ (n : ℕ) × (e ≡ ApiError.NoSuchVar n)) }
         ensures err { OnErr result (self.new ≡ self.old) }
     {
+        // That the items name variables that are there is known from here on.
+        let _vars = self.formula.vars();
         self.formula.push_clause(lits)?;
         self.model = None;
         self.conflict = None;
@@ -142,9 +183,11 @@ impl SatSolver {
         ensures too_many_lits { (result ≡ Err ApiError.TooManyLits)
             ↔ ((first_unknown self.old.problem.vars (numbers_of (Parity vars.now rhs)) ≡ None)
             × (self.old.limits.lits < lit_count self.old.problem.items + length vars.now)) }
-        ensures no_other { result ≢ Err ApiError.TooManyVars }
+        ensures only { IfErr result (λ e. (e ≡ ApiError.Memory) ⊎ (e ≡ ApiError.TooManyLits) ⊎ (n : ℕ) × (e ≡ ApiError.NoSuchVar n)) }
         ensures err { OnErr result (self.new ≡ self.old) }
     {
+        // That the items name variables that are there is known from here on.
+        let _vars = self.formula.vars();
         self.formula.push_parity(vars, rhs)?;
         self.model = None;
         self.conflict = None;
@@ -159,22 +202,24 @@ impl SatSolver {
     }
 
     /// Looks for an assignment that satisfies every item and every assumption, of which there are at
-    /// most 2^31.
+    /// most 2^31. The first of the solvers searches in this thread, and each other one in a thread of
+    /// its own.
     ///
     /// `NoSuchVar` comes before anything else, exactly where an assumption's variable is not there,
     /// and names the first such; nothing changes then. Where `okay` is false the answer is `Unsat`
     /// at once, with the empty conflict. After `Sat` the model is there to be read, and after
     /// `Unsat` the conflict. `Unknown` names its cause. `Limit` comes only where a conflict limit is
-    /// set, `conflicts` rose in this call by at least the limit, and the limit is less than the number
-    /// of conflicts that is enough to decide the formula. `Alarm` comes only where the count of the
-    /// alarm rose in this call. So without a limit, or with one that is enough, and without a raise
-    /// there is a verdict or want of memory. After `Unknown` the items stand, and the question may be
-    /// asked again.
+    /// set, with as many counts as threads, each of which is the limit; `conflicts` rose in this call
+    /// by at least their sum, and the limit is less than the number of conflicts that is enough to
+    /// decide the formula. `Alarm` comes only where the count of the alarm rose in this call. So
+    /// without a limit, or with one that is enough, and without a raise there is a verdict or want of
+    /// memory. After `Unknown` the items stand, and the question may be asked again.
     ///
-    /// `Memory` is the only other error: then the items stand, and neither model nor conflict is
-    /// there. Where a conflict limit is set, `conflicts` never rises by more than the limit, whatever
+    /// `Memory` is the only other error: then the items stand, the shared clauses stand with what was
+    /// added, and neither model nor conflict is there. A solver that ran out of memory is made anew in
+    /// the next call. Where a conflict limit is set, no solver makes more conflicts in one call, whatever
     /// the answer. The alarm is polled first of all, but for a question that is refused or answered at
-    /// once, where it is not polled. No thread is started.
+    /// once, where it is not polled.
     pub fn solve<R: Threads + Sync, A: Alarm + Send>(
         &mut self,
         rt: &R,
@@ -186,7 +231,11 @@ impl SatSolver {
         ensures decided { IfOk result (Decides self.old.problem assumptions.now) }
         ensures completes { IfOk result (Completes self.old (A.raises alarm.old) (A.raises alarm.new)) }
         ensures okay { IfOk result (λ answer. KeepsOkay self.old self.new) }
-        ensures at_once { IfOk result (AnswersAtOnce self.old self.new) }
+        ensures begun { IfOk result (λ answer. self.new.begun ≡ true) }
+        ensures at_once { IfOk result (λ answer. self.old.okay ≡ false → AnswersAtOnce self.old self.new answer) }
+
+        ensures settled { IfOk result (λ answer. self.old.okay ≡ true → Settles self.old self.new × (length self.new.solvers ≡ self.old.threads)) }
+        ensures left { result ≡ Err ApiError.Memory → self.old.okay ≡ true → Settles self.old self.new }
 
         ensures keeps { Keeps self.old self.new }
         ensures later { A.raises alarm.old ≤ A.raises alarm.new }
@@ -195,62 +244,94 @@ impl SatSolver {
         ensures no_such_var { (n : ℕ) → (result ≡ Err (ApiError.NoSuchVar n))
             ↔ (first_unknown self.old.problem.vars (numbers_of (Clause assumptions.now)) ≡ Some n) }
         ensures refused { (n : ℕ) → result ≡ Err (ApiError.NoSuchVar n) → (self.new ≡ self.old) × (alarm.new ≡ alarm.old) }
-        ensures memory { result ≡ Err ApiError.Memory → self.new ≡ unanswered (record self.old { counted = self.new.counted }) }
+        ensures memory { result ≡ Err ApiError.Memory
+            → self.new ≡ unanswered (record self.old { begun = true; counted = self.new.counted; solvers = self.new.solvers; shared = self.new.shared; given_up = self.new.given_up }) }
         ensures only { IfErr result (λ e. (e ≡ ApiError.Memory) ⊎ (n : ℕ) × (e ≡ ApiError.NoSuchVar n)) }
     {
         if let Some(var) = unknown_lit(self.formula.vars(), assumptions) {
             return Err(ApiError::NoSuchVar { var });
         }
-        let answer = self.ask(assumptions, alarm)?;
+        let answer = self.ask(rt, assumptions, alarm)?;
         Ok(answer)
     }
 
     /// The same where the variables of the assumptions are there.
-    fn ask<A: Alarm>(&mut self, assumptions: &[Lit], alarm: &mut A) -> Result<Answer, NoMemory>
+    fn ask<R: Threads + Sync, A: Alarm + Send>(
+        &mut self,
+        rt: &R,
+        assumptions: &[Lit],
+        alarm: &mut A,
+    ) -> Result<Answer, NoMemory>
         requires few { length assumptions.now ≤ 2 ^ 31 }
         requires known { IsTrue (names_known self.old.problem.vars (Clause assumptions.now)) }
         ensures answers { IfOk result (Answers self.old self.new assumptions.now (A.raises alarm.old) (A.raises alarm.new)) }
         ensures decided { IfOk result (Decides self.old.problem assumptions.now) }
         ensures okay { IfOk result (λ answer. KeepsOkay self.old self.new) }
-        ensures at_once { IfOk result (AnswersAtOnce self.old self.new) }
+        ensures begun { self.new.begun ≡ true }
+        ensures at_once { IfOk result (λ answer. self.old.okay ≡ false → AnswersAtOnce self.old self.new answer) }
+        ensures settled { self.old.okay ≡ true → Settles self.old self.new }
+        ensures many { IfOk result (λ answer. self.old.okay ≡ true → length self.new.solvers ≡ self.old.threads) }
         ensures keeps { Keeps self.old self.new }
         ensures later { A.raises alarm.old ≤ A.raises alarm.new }
         ensures unpolled { self.old.okay ≡ false → alarm.new ≡ alarm.old }
-        ensures err { OnErr result (self.new ≡ unanswered (record self.old { counted = self.new.counted })) }
+        ensures err { OnErr result (self.new ≡ unanswered (record self.old { begun = true; counted = self.new.counted; solvers = self.new.solvers; shared = self.new.shared; given_up = self.new.given_up })) }
     {
-        self.model = None;
-        self.conflict = None;
+        self.begin();
         if !self.okay {
             self.conflict = Some(List::new(self.alloc));
             return Ok(Answer::Unsat);
         }
-        // That the count has 64 bits is known from here on.
-        let _counted = self.tally.count();
-        let found = decide(
-            &mut self.solver,
+        self.fill()?;
+        let found = compete(
+            rt,
+            self.alloc,
             &self.formula,
             assumptions,
             self.max_conflicts,
+            self.solvers.as_mut_slice(),
+            &mut self.store,
+            &mut self.tally,
             alarm,
         );
-        self.solver.pour(&mut self.tally);
-        match found? {
-            Finding::Verdict(Verdict::Sat(values)) => {
+        self.given_up = count_lost(self.solvers.as_slice(), &self.formula);
+        match found {
+            RaceAnswer::Verdict(Verdict::Sat(values)) => {
                 self.model = Some(values);
                 Ok(Answer::Sat)
             }
-            Finding::Verdict(Verdict::Unsat(mut failed)) => {
+            RaceAnswer::Verdict(Verdict::Unsat(mut failed)) => {
                 failed.negate();
                 self.okay = !is_empty_clause(failed.as_slice());
                 self.conflict = Some(failed);
                 Ok(Answer::Unsat)
             }
-            Finding::Spent { count } => {
-                let counts = List::from_slice(self.alloc, &[count])?;
-                Ok(Answer::Unknown(Cause::Limit { counts }))
-            }
-            Finding::Interrupted => Ok(Answer::Unknown(Cause::Alarm)),
+            RaceAnswer::Spent { counts } => Ok(Answer::Unknown(Cause::Limit { counts })),
+            RaceAnswer::Interrupted => Ok(Answer::Unknown(Cause::Alarm)),
+            RaceAnswer::Memory => Err(NoMemory),
         }
+    }
+
+    /// A question is asked: what the latest call left to be read is gone.
+    fn begin(&mut self)
+        ensures { self.new ≡ unanswered (record self.old { begun = true; given_up = 0 }) }
+    {
+        self.begun = true;
+        self.given_up = 0;
+        self.model = None;
+        self.conflict = None;
+    }
+
+    /// Makes the solvers, where there are none yet. The only error is want of memory.
+    fn fill(&mut self) -> Result<(), NoMemory>
+        requires { self.old.begun ≡ true }
+        ensures many { OnOk result (length self.new.solvers ≡ self.old.threads) }
+        ensures same { self.new ≡ record self.old { solvers = self.new.solvers } }
+        ensures err { OnErr result ((self.old.solvers ≡ []) × (self.new ≡ self.old)) }
+    {
+        if self.solvers.is_empty() {
+            self.solvers = new_solvers(self.alloc, self.threads)?;
+        }
+        Ok(())
     }
 
     /// False exactly where an earlier `solve` answered `Unsat` with the empty conflict: the items
@@ -275,6 +356,24 @@ impl SatSolver {
         ensures { result ≡ self.now.problem.vars }
     {
         self.formula.vars()
+    }
+
+    /// The clauses that the solvers share, in the order in which they were given. Each has one or two
+    /// literals and follows from the items, no two are the same, and each names the solver that gave
+    /// it, which is below the number of threads.
+    pub fn shared(&self) -> &[Shared]
+        ensures value { result.now ≡ self.now.shared }
+        ensures legal { IsLegalLog self.now.problem self.now.shared }
+        ensures given { All (λ e. e.solver < self.now.threads) self.now.shared }
+    {
+        self.store.from(0)
+    }
+
+    /// The number of solvers that ran out of memory in the latest `solve`.
+    pub fn given_up(&self) -> u32
+        ensures { result ≡ self.now.given_up }
+    {
+        self.given_up
     }
 
     /// The values of the variables in order, where the latest call that was not refused was a

@@ -7,6 +7,8 @@ fn texts_of_errors(rt: HostRuntime) -> Result<(), Fail> {
         (ApiError::NoSuchVar { var: 7 }, "NoSuchVar 7"),
         (ApiError::TooManyVars, "TooManyVars"),
         (ApiError::TooManyLits, "TooManyLits"),
+        (ApiError::TooLate, "TooLate"),
+        (ApiError::BadCount, "BadCount"),
         (ApiError::Memory, "Memory"),
     ];
     for (error, text) in rows {

@@ -1,10 +1,11 @@
 -- How the reading of a text is answered, from its start on.
-use Rattle.std.proofs.Common.{◌≡◌, ℕ, List, [], ◌∷◌, ◌++◌, Result, Err, refl, sym, ap, ◌∙◌, subst, inl, inr, append-nil, arith}
+use Rattle.std.proofs.Common.{◌≡◌, ◌≤◌, ℕ, List, [], ◌∷◌, ◌++◌, Result, Err, refl, sym, ap, ◌∙◌, subst, inl, inr, append-nil, arith}
 use Rattle.std.specs.Io.KnownBytes.{Appends}
 use Rattle.std.proofs.KnownBytes.{Appends-trans}
 use Rattle.sat_lits.specs.Meaning.{Problem}
 use Rattle.sat_lits.specs.Formulas.{no_problem}
-use Rattle.sat_ports.specs.Causes.{Rose}
+use Rattle.sat_lits.specs.declared.shared.Shared.{Shared}
+use Rattle.sat_ports.specs.Causes.{Rose, RoseBy}
 use Rattle.sat_ports.specs.Writes.{AppendsFront}
 use Rattle.sat_api.specs.State.{SolverState}
 use Rattle.dimacs_text.specs.Grammar.{Reading}
@@ -13,16 +14,16 @@ use Rattle.dimacs_text.specs.Texts.{text_of_refusal}
 use Rattle.dimacs_text.specs.declared.command.Command.{Command}
 use Rattle.dimacs_text.specs.declared.refusal.Refusal.{Refusal}
 use Rattle.sat_run.specs.Questions.{Question, question, questions_from, questions_of, closing, after_all, problem_of}
-use Rattle.sat_run.specs.Reports.{text_of_report, blocks_text}
+use Rattle.sat_run.specs.Reports.{Block, block, text_of_block, blocks_text, conflicts_of_all, raises_of_all}
 use Rattle.sat_run.specs.Writing.{WritesText}
 use Rattle.sat_run.specs.Errors.{halted}
-use Rattle.sat_run.specs.World.{World, Tells, Carries, AnswersOne, StopsAmong}
+use Rattle.sat_run.specs.World.{World, listed_in, KeepsSettings, Tells, Carries, AnswersOne, StopsAmong}
 use Rattle.sat_run.specs.Runs.{AnswersAll, AnswersRefusal, StopsRight}
 use Rattle.sat_run.specs.declared.report.Report.{Report}
 use Rattle.sat_run.specs.declared.failures.Halt.{Halt}
 use Rattle.sat_run.specs.declared.failures.Halt.TheVariants.{Memory, Write}
 use Rattle.sat_run.specs.declared.failures.Stop.{Stop}
-use Rattle.sat_run.proofs.Joins.{carries_then, tells_then, stops_after, stops_more, stops_commands, stops_here, questions_from-append, blocks_text-append}
+use Rattle.sat_run.proofs.Joins.{carries_then, tells_then, listed_then, stops_after, stops_more, stops_commands, stops_here, questions_from-append, blocks_text-append}
 
 abbrev pub reading : List Command → End → Reading
 reading commands end = record { commands = commands; end = end }
@@ -55,51 +56,57 @@ stop_last h given commands end a b c began p s =
     subst (λ (cs : List Command). StopsRight (halted h) (reading cs end) a c) (append-nil (given ++ commands)) (stop_behind h given commands [] end a b c began p s)
 
 -- what was told of the commands is told of the questions of a text that is refused behind them
-refused_tells : (commands : List Command) (why : Refusal) (reports : List Report) (a b : World) → a.solver.problem ≡ no_problem → Tells (questions_from a.solver.problem commands) reports a b
-    → Tells (questions_of (reading commands (Refused why))) reports a b
-refused_tells commands why reports a b began t =
-    subst (λ (qs : List Question). Tells qs reports a b) (sym (append-nil (questions_from no_problem commands))) (subst (λ (f : Problem). Tells (questions_from f commands) reports a b) began t)
+refused_tells : (commands : List Command) (why : Refusal) (blocks : List Block) (a b : World) → a.solver.problem ≡ no_problem → Tells (questions_from a.solver.problem commands) blocks a b
+    → Tells (questions_of (reading commands (Refused why))) blocks a b
+refused_tells commands why blocks a b began t =
+    subst (λ (qs : List Question). Tells qs blocks a b) (sym (append-nil (questions_from no_problem commands))) (subst (λ (f : Problem). Tells (questions_from f commands) blocks a b) began t)
 
 -- only the sink differs
 record SameBut (a b : World) : Type 0 where
   pub solver : b.solver ≡ a.solver
   pub raised : b.raised ≡ a.raised
+  pub shares : b.shares ≡ a.shares
 
-tells_but : (qs : List Question) (reports : List Report) (a b c : World) → SameBut b c → Tells qs reports a b → Tells qs reports a c
-tells_but qs reports a b c same t =
-    subst (λ (n : ℕ). Tells qs reports a (record { solver = c.solver; raised = n; sink = c.sink })) (sym same.raised)
-    (subst (λ (s : SolverState). Tells qs reports a (record { solver = s; raised = b.raised; sink = c.sink })) (sym same.solver)
-    (record { right = t.right; counted = t.counted; raised = t.raised; later = t.later; settings = t.settings }))
+tells_but : (qs : List Question) (blocks : List Block) (a b c : World) → SameBut b c → Tells qs blocks a b → Tells qs blocks a c
+tells_but qs blocks a b c same t =
+    record {
+      right = t.right;
+      counted = subst (λ (s : SolverState). RoseBy (conflicts_of_all blocks) a.solver.counted s.counted) (sym same.solver) t.counted;
+      raised = subst (RoseBy (raises_of_all blocks) a.raised) (sym same.raised) t.raised;
+      later = subst (λ (n : ℕ). a.raised ≤ n) (sym same.raised) t.later;
+      settings = subst (λ (s : SolverState). KeepsSettings a.solver s) (sym same.solver) t.settings;
+      shares = same.shares ∙ t.shares;
+    }
 
 -- the refusal's text was written, or not whole
-pub refusal_written : (given commands : List Command) (why : Refusal) (a b c d : World) → a.solver.problem ≡ no_problem → Carries given a b → Carries commands b c → d.solver ≡ c.solver → d.raised ≡ c.raised
+pub refusal_written : (given commands : List Command) (why : Refusal) (a b c d : World) → a.solver.problem ≡ no_problem → Carries given a b → Carries commands b c → d.solver ≡ c.solver → d.raised ≡ c.raised → d.shares ≡ c.shares
     → Appends c.sink.bytes d.sink.bytes (text_of_refusal why) → d.sink.faults ≡ c.sink.faults → AnswersRefusal (reading (given ++ commands) (Refused why)) a d
-refusal_written given commands why a b c d began p q solver raised written kept =
+refusal_written given commands why a b c d began p q solver raised shares written kept =
     let k = carries_then given commands a b c p q in
     record {
       why = why;
       refused = refl;
-      reports = k.reports;
-      tells = tells_but _ k.reports a c d (record { solver = solver; raised = raised }) (refused_tells (given ++ commands) why k.reports a c began k.tells);
+      blocks = k.blocks;
+      tells = tells_but _ k.blocks a c d (record { solver = solver; raised = raised; shares = shares }) (refused_tells (given ++ commands) why k.blocks a c began k.tells);
       written = Appends-trans a.sink.bytes c.sink.bytes d.sink.bytes _ _ k.written written;
       kept = kept ∙ k.kept;
     }
 
 pub refusal_stops : {X : Type 0} (h : Halt) (given commands : List Command) (why : Refusal) (result : Result X Halt) (a b c d : World) → result ≡ Err h → a.solver.problem ≡ no_problem → Carries given a b → Carries commands b c
-    → d.solver ≡ c.solver → d.raised ≡ c.raised → WritesText (text_of_refusal why) result c.sink d.sink → StopsRight (halted h) (reading (given ++ commands) (Refused why)) a d
-refusal_stops Memory given commands why result a b c d e began p q solver raised written =
+    → d.solver ≡ c.solver → d.raised ≡ c.raised → d.shares ≡ c.shares → WritesText (text_of_refusal why) result c.sink d.sink → StopsRight (halted h) (reading (given ++ commands) (Refused why)) a d
+refusal_stops Memory given commands why result a b c d e began p q solver raised shares written =
     stop_last Memory given commands (Refused why) a b d began p
     (let s = stops_commands Memory commands [] b c d q (stops_here [] c d (let x = ap (λ (t : SolverState). t.counted) solver in omega arith) (omega (arith, raised))
-    (record { limits = ap (λ (t : SolverState). t.limits) solver; max_conflicts = ap (λ (t : SolverState). t.max_conflicts) solver }) (written.none e)) in
+    (record { limits = ap (λ (t : SolverState). t.limits) solver; threads = ap (λ (t : SolverState). t.threads) solver; max_conflicts = ap (λ (t : SolverState). t.max_conflicts) solver }) shares (written.none e)) in
     subst (λ (cs : List Command). StopsAmong Memory (questions_from b.solver.problem cs) b d) (append-nil commands) s)
-refusal_stops Write given commands why result a b c d e began p q solver raised written =
+refusal_stops Write given commands why result a b c d e began p q solver raised shares written =
     let k = carries_then given commands a b c p q in
     let front : AppendsFront c.sink.bytes d.sink.bytes (text_of_refusal why) = written.front e in
     inr (record {
       why = why;
       refused = refl;
-      reports = k.reports;
-      tells = tells_but _ k.reports a c d (record { solver = solver; raised = raised }) (refused_tells (given ++ commands) why k.reports a c began k.tells);
+      blocks = k.blocks;
+      tells = tells_but _ k.blocks a c d (record { solver = solver; raised = raised; shares = shares }) (refused_tells (given ++ commands) why k.blocks a c began k.tells);
       count = front.0;
       written = Appends-trans a.sink.bytes c.sink.bytes d.sink.bytes _ _ k.written front.2;
       fault = subst (λ (n : ℕ). Rose n d.sink.faults) k.kept (written.fault e);
@@ -114,15 +121,18 @@ pub all_answered : (given : List Command) (report : Report) (a b c : World) → 
     → AnswersAll (reading given Ended) report a c
 all_answered given report a b c began p h =
     let e = run_problem given a b began p in
+    let last = block report h.entries in
     record {
       ended = refl;
-      earlier = p.reports;
+      earlier = p.blocks;
+      entries = h.entries;
       tells =
-          subst (λ (f : Problem). Tells (questions_from no_problem given ++ question f [] ∷ []) (p.reports ++ report ∷ []) a c) e
-          (subst (λ (f : Problem). Tells (questions_from f given ++ question b.solver.problem [] ∷ []) (p.reports ++ report ∷ []) a c) began
-          (tells_then (questions_from a.solver.problem given) (question b.solver.problem [] ∷ []) p.reports (report ∷ []) a b c p.tells h.tells));
+          subst (λ (f : Problem). Tells (questions_from no_problem given ++ question f [] ∷ []) (p.blocks ++ last ∷ []) a c) e
+          (subst (λ (f : Problem). Tells (questions_from f given ++ question b.solver.problem [] ∷ []) (p.blocks ++ last ∷ []) a c) began
+          (tells_then (questions_from a.solver.problem given) (question b.solver.problem [] ∷ []) p.blocks (last ∷ []) a b c p.tells p.listed h.tells));
+      listed = listed_then p.blocks (last ∷ []) a b c p.listed (h.listed ∙ ap (λ (es : List Shared). listed_in b ++ es) (sym (append-nil h.entries)));
       written =
-          subst (Appends a.sink.bytes c.sink.bytes) (ap (λ (xs : List ℕ). blocks_text p.reports ++ xs) (sym (append-nil (text_of_report report))) ∙ sym (blocks_text-append p.reports (report ∷ [])))
+          subst (Appends a.sink.bytes c.sink.bytes) (ap (λ (xs : List ℕ). blocks_text p.blocks ++ xs) (sym (append-nil (text_of_block last))) ∙ sym (blocks_text-append p.blocks (last ∷ [])))
           (Appends-trans a.sink.bytes b.sink.bytes c.sink.bytes _ _ p.written h.written);
       kept = h.kept ∙ p.kept;
       problem = h.problem ∙ e;
@@ -136,7 +146,7 @@ last_stopped h given a b c began p s =
     stop_right h (reading given Ended) a c
     (subst (λ (f : Problem). StopsAmong h (questions_from no_problem given ++ question f [] ∷ []) a c) (run_problem given a b began p)
     (subst (λ (f : Problem). StopsAmong h (questions_from f given ++ question b.solver.problem [] ∷ []) a c) began
-    (stops_after h (questions_from a.solver.problem given) (question b.solver.problem [] ∷ []) p.reports a b c p.tells p.written p.kept s)))
+    (stops_after h (questions_from a.solver.problem given) (question b.solver.problem [] ∷ []) p.blocks a b c p.tells p.listed p.written p.kept s)))
 
 -- a stop whose name is known
 pub named_stop : (x y : Stop) (r : Reading) (a b : World) → x ≡ y → StopsRight y r a b → StopsRight x r a b

@@ -3,17 +3,17 @@ use Rattle.std.proofs.Common.{◌≡◌, ◌↔◌, ℕ, suc, zero, ◌<◌, ◌
 use Rattle.std.specs.declared.option.Option.{Option}
 use Rattle.std.specs.Char.{is_ascii_digit}
 use Rattle.std.specs.List.{starts_with}
-use Rattle.std.specs.Option.{option_and_then, option_map}
+use Rattle.std.specs.Option.{option_and_then, option_map, unwrap_or}
 use Rattle.std.specs.Result.{result_ok}
-use Rattle.std.specs.Str.{all_ascii_digits}
+use Rattle.std.specs.Str.{bytes_eq, all_ascii_digits}
 use Rattle.std.specs.Str.Parse.{digits_value, ParsesUnsigned}
 use Rattle.std.proofs.lemmas.Bool.{and_parts, and_from, lt-ltb, le-leb, ltb-true, leb-true, true≢false}
 use Rattle.std.proofs.lemmas.Str.Parse.{IsNumeralModel, numerals_by_value, tells_all_ascii_digits, parse_digits}
 use Rattle.sat_lits.specs.Limits.{standard_limits}
-use Rattle.sat_run.specs.Words.{is_number, number_of, number_behind, setting_of, with_limit, with_input, with_number, with_word, settled, chosen_with, options_after, no_options, options_of, input_of}
+use Rattle.sat_run.specs.Words.{is_number, number_of, number_behind, setting_of, with_limit, with_input, allows_threads, with_threads, with_shared, with_number, with_word, settled, chosen_with, options_after, no_options, options_of, input_of, threads_of}
 use Rattle.sat_run.specs.declared.words.Options.{Options}
 use Rattle.sat_run.specs.declared.words.Setting.{Setting}
-use Rattle.sat_run.specs.declared.words.Setting.TheVariants.{MaxConflicts, MaxInput}
+use Rattle.sat_run.specs.declared.words.Setting.TheVariants.{MaxConflicts, MaxInput, ThreadCount}
 use Rattle.sat_run.specs.declared.words.Chosen.{Chosen}
 
 all_where_each : (ds : List ℕ) → ((k : ℕ) → k < length ds → is_ascii_digit (get_or ds k 0) ≡ true) → all_ascii_digits ds ≡ true
@@ -64,15 +64,23 @@ number_parsed {E} ds (Err error) all some few h =
     (not_below (digits_value 10 ds) (2 ^ 64) (nat_lt (digits_value 10 ds) (2 ^ 64)) refl (λ l. parse_digits numeral {E = E} 64 ds (Err error) h all (some, l))) in
     sym (ap (λ (b : Bool). if b then Some (digits_value 10 ds) else None) no)
 
--- a word that begins with no option's name and an equals sign
-pub no_word : (o : Options) (word : List ℕ) → starts_with nat_eq word (codes "--maxconfl=") ≡ false → starts_with nat_eq word (codes "--max-input=") ≡ false → None ≡ with_word o word
-no_word o word e f =
-    sym (ap (λ (b : Bool). if b then option_and_then (with_limit o) (number_behind (codes "--maxconfl=") word) else option_and_then (with_input o) (number_behind (codes "--max-input=") word)) e
-    ∙ ap (λ (b : Bool). option_and_then (with_input o) (if b then number_of (drop (length (codes "--max-input=")) word) else None)) f)
+cond_false : {X : Type 0} (b : Bool) (x y : X) → b ≡ false → (if b then x else y) ≡ y
+cond_false true x y e = absurd (true≢false e)
+cond_false false x y e = refl
 
--- no more bytes of input are allowed than the standard limit says
-abbrev IsStandard : Options → Type 0
-IsStandard options = input_of options ≤ standard_limits.input
+-- a word that is no option, and begins with no option's name and an equals sign
+pub no_word : (o : Options) (word : List ℕ) → bytes_eq word (codes "--print-shared") ≡ false → starts_with nat_eq word (codes "--maxconfl=") ≡ false → starts_with nat_eq word (codes "--max-input=") ≡ false
+    → starts_with nat_eq word (codes "--threads=") ≡ false → None ≡ with_word o word
+no_word o word d e f g =
+    sym (cond_false _ (with_shared o) _ d ∙ cond_false _ (option_and_then (with_limit o) (number_behind (codes "--maxconfl=") word)) _ e
+    ∙ cond_false _ (option_and_then (with_input o) (number_behind (codes "--max-input=") word)) _ f
+    ∙ ap (option_and_then (with_threads o)) (cond_false _ (number_of (drop (length (codes "--threads=")) word)) None g))
+
+-- Whatever the words, no more bytes of input are allowed than the standard limit says, and the number of threads is one that it allows.
+record IsStandard (options : Options) : Type 0 where
+  pub few : input_of options ≤ standard_limits.input
+  pub some_thread : 0 < threads_of options
+  pub few_threads : threads_of options ≤ standard_limits.threads
 
 then_standard : {X : Type 0} (f : X → Option Options) (x : Option X) → ((y : X) → IfSome (f y) IsStandard) → IfSome (option_and_then f x) IsStandard
 then_standard f None h = tt
@@ -82,27 +90,49 @@ limit_standard : (o : Options) (limit : ℕ) → IsStandard o → IfSome (with_l
 limit_standard o limit h = go o.max_conflicts
   where
     go : (m : Option ℕ) → IfSome (elim m [ None ↦ Some (record o { max_conflicts = Some limit }) | Some earlier ↦ None ]) IsStandard
-    go None = h
+    go None = record { few = h.few; some_thread = h.some_thread; few_threads = h.few_threads }
     go (Some earlier) = tt
 
-input_standard : (o : Options) (most : ℕ) → IfSome (with_input o most) IsStandard
-input_standard o most = go o.max_input (nat_le most standard_limits.input) refl
+input_standard : (o : Options) (most : ℕ) → IsStandard o → IfSome (with_input o most) IsStandard
+input_standard o most h = go o.max_input (nat_le most standard_limits.input) refl
   where
     go : (m : Option ℕ) (b : Bool) → nat_le most standard_limits.input ≡ b → IfSome (elim m [ None ↦ if b then Some (record o { max_input = Some most }) else None | Some earlier ↦ None ]) IsStandard
-    go None true e = leb-true most standard_limits.input e
+    go None true e = record { few = leb-true most standard_limits.input e; some_thread = h.some_thread; few_threads = h.few_threads }
     go None false e = tt
     go (Some earlier) b e = tt
 
+threads_standard : (o : Options) (count : ℕ) → IsStandard o → IfSome (with_threads o count) IsStandard
+threads_standard o count h = go o.threads (allows_threads count) refl
+  where
+    go : (m : Option ℕ) (b : Bool) → allows_threads count ≡ b → IfSome (elim m [ None ↦ if b then Some (record o { threads = Some count }) else None | Some earlier ↦ None ]) IsStandard
+    go None true e =
+        let parts : (nat_lt 0 count ≡ true) × (nat_le count standard_limits.threads ≡ true) = and_parts _ _ e in
+        record { few = h.few; some_thread = ltb-true 0 count parts.0; few_threads = leb-true count standard_limits.threads parts.1 }
+    go None false e = tt
+    go (Some earlier) b e = tt
+
+shared_standard : (o : Options) → IsStandard o → IfSome (with_shared o) IsStandard
+shared_standard o h = go o.print_shared
+  where
+    go : (b : Bool) → IfSome (if b then None else Some (record o { print_shared = true })) IsStandard
+    go true = tt
+    go false = record { few = h.few; some_thread = h.some_thread; few_threads = h.few_threads }
+
 number_standard : (o : Options) (s : Setting) (word : List ℕ) → IsStandard o → IfSome (with_number o s word) IsStandard
 number_standard o MaxConflicts word h = then_standard (with_limit o) (number_of word) (λ n. limit_standard o n h)
-number_standard o MaxInput word h = then_standard (with_input o) (number_of word) (λ n. input_standard o n)
+number_standard o MaxInput word h = then_standard (with_input o) (number_of word) (λ n. input_standard o n h)
+number_standard o ThreadCount word h = then_standard (with_threads o) (number_of word) (λ n. threads_standard o n h)
+
+one_standard : (b : Bool) (x y : Option Options) → IfSome x IsStandard → IfSome y IsStandard → IfSome (if b then x else y) IsStandard
+one_standard true x y h k = h
+one_standard false x y h k = k
 
 word_standard : (o : Options) (word : List ℕ) → IsStandard o → IfSome (with_word o word) IsStandard
-word_standard o word h = go (starts_with nat_eq word (codes "--maxconfl="))
-  where
-    go : (b : Bool) → IfSome (if b then option_and_then (with_limit o) (number_behind (codes "--maxconfl=") word) else option_and_then (with_input o) (number_behind (codes "--max-input=") word)) IsStandard
-    go true = then_standard (with_limit o) (number_behind (codes "--maxconfl=") word) (λ n. limit_standard o n h)
-    go false = then_standard (with_input o) (number_behind (codes "--max-input=") word) (λ n. input_standard o n)
+word_standard o word h =
+    one_standard (bytes_eq word (codes "--print-shared")) _ _ (shared_standard o h)
+    (one_standard (starts_with nat_eq word (codes "--maxconfl=")) _ _ (then_standard (with_limit o) (number_behind (codes "--maxconfl=") word) (λ n. limit_standard o n h))
+    (one_standard (starts_with nat_eq word (codes "--max-input=")) _ _ (then_standard (with_input o) (number_behind (codes "--max-input=") word) (λ n. input_standard o n h))
+    (then_standard (with_threads o) (number_behind (codes "--threads=") word) (λ n. threads_standard o n h))))
 
 settled_standard : (x : Option Options) → IfSome x IsStandard → IfSome (option_map settled x) (λ c. IsStandard c.options)
 settled_standard None h = tt
@@ -134,8 +164,23 @@ after_standard c (word ∷ words) h = go (λ d k. after_standard d words k) (cho
     go on None k = tt
     go on (Some d) k = on d k
 
+all_standard : (words : List (List ℕ)) (o : Options) → options_of words ≡ Some o → IsStandard o
+all_standard words o e =
+    let P : Option Options → Type 0 = λ x. IfSome x IsStandard in
+    subst P e (after_standard (settled no_options) words (record { few = omega arith; some_thread = omega arith; few_threads = omega arith }))
+
 -- whatever the words, a text has at most as many bytes as the standard limit says
 pub options_standard : (words : List (List ℕ)) (o : Options) → options_of words ≡ Some o → input_of o ≤ standard_limits.input
-options_standard words o e =
-    let P : Option Options → Type 0 = λ x. IfSome x IsStandard in
-    subst P e (after_standard (settled no_options) words (omega arith))
+options_standard words o e = (all_standard words o e).few
+
+-- and there is a thread, and no more than the standard limit says
+pub options_threads : (words : List (List ℕ)) (o : Options) → options_of words ≡ Some o → (0 < threads_of o) × (threads_of o ≤ standard_limits.threads)
+options_threads words o e = ((all_standard words o e).some_thread, (all_standard words o e).few_threads)
+
+-- the number of threads that was chosen, or else one
+pub threads_given : (o : Options) → unwrap_or o.threads 1 ≡ threads_of o
+threads_given o = go o.threads
+  where
+    go : (threads : Option ℕ) → unwrap_or threads 1 ≡ elim threads [ None ↦ 1 | Some count ↦ count ]
+    go None = refl
+    go (Some count) = refl

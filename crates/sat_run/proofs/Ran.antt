@@ -7,17 +7,18 @@ use Rattle.std.proofs.lemmas.Bool.{true≢false}
 use Rattle.sat_lits.specs.Limits.{LimitNumbers}
 use Rattle.sat_ports.specs.Causes.{Rose, RoseBy}
 use Rattle.sat_lits.specs.Conflicts.{own_count, enough}
+use Rattle.sat_lits.specs.declared.shared.Shared.{Shared}
 use Rattle.sat_lits.specs.declared.verdict.Verdict.TheVariants as verdict
 use Rattle.sat_api.specs.Laws.{makes_true-StandAt}
 use Rattle.dimacs_text.specs.Grammar.{Reading, reading_of}
 use Rattle.dimacs_text.specs.Lists.{Ended}
 use Rattle.sat_run.specs.Questions.{Question, questions_of}
-use Rattle.sat_run.specs.Reports.{IsRightReport, IsDecided, AreRight, AreDecided, raises_of, raises_of_all, status_of}
-use Rattle.sat_run.specs.Words.{options_of, input_of}
+use Rattle.sat_run.specs.Reports.{Block, block, Rules, IsRightReport, IsDecided, AreRight, AreDecided, raises_of, raises_of_all, status_of}
+use Rattle.sat_run.specs.Words.{options_of, input_of, threads_of}
 use Rattle.sat_run.specs.Writing.{Port}
 use Rattle.sat_run.specs.Progress.{limits_of, ReadsNoMore}
-use Rattle.sat_run.specs.World.{World}
-use Rattle.sat_run.specs.Runs.{AnswersRefusal, StopsRight, AnswersText, StopsText, AnswersDecided, IsSourceAt, IsSinkAt, IsAmong, LeavesEnough, DecidesAll, set_world, reading_with, most_read, status_at, RunsRight}
+use Rattle.sat_run.specs.World.{World, rules_of, listed_in}
+use Rattle.sat_run.specs.Runs.{AnswersRefusal, StopsRight, AnswersText, StopsText, AnswersDecided, IsSourceAt, IsSinkAt, IsAmong, LeavesEnough, DecidesAll, set_world, end_world, reading_with, most_read, status_at, RunsRight}
 use Rattle.sat_run.specs.declared.report.Report.{Report}
 use Rattle.sat_run.specs.declared.report.Report.TheVariants as report
 use Rattle.sat_run.specs.declared.failures.Stop.{Stop}
@@ -61,28 +62,28 @@ no_raises zero before now rose quiet = refl
 no_raises (suc count) before now rose quiet = absurd (quiet (omega (arith, rose)))
 
 -- where the limit is enough, a right report that tells of no raise decides
-decided_one : (given : Option ℕ) (q : Question) (r : Report) → IsRightReport given q r → ForSome given (λ m. enough (own_count q.problem) ≤ m) → raises_of r ≡ 0 → IsDecided q r
-decided_one given q (report.Verdict (verdict.Sat values)) right leaves none = (values, right.0, right.1)
-decided_one given q (report.Verdict (verdict.Unsat failed)) right leaves none =
+decided_one : (rules : Rules) (q : Question) (r : Report) → IsRightReport rules q r → ForSome rules.max_conflicts (λ m. enough (own_count q.problem) ≤ m) → raises_of r ≡ 0 → IsDecided q r
+decided_one rules q (report.Verdict (verdict.Sat values)) right leaves none = (values, right.0, right.1)
+decided_one rules q (report.Verdict (verdict.Unsat failed)) right leaves none =
     λ (values, model, made). true≢false (sym (makes_true-StandAt values q.assumptions right.positions failed right.places made) ∙ right.contradict values model)
-decided_one given q report.Alarm right leaves none = absurd (omega (arith, none))
-decided_one given q (report.Limit counts) right leaves none = too_few right.limit (enough (own_count q.problem)) right.few (leaves right.limit right.is_given)
+decided_one rules q report.Alarm right leaves none = absurd (omega (arith, none))
+decided_one rules q (report.Limit counts) right leaves none = too_few right.limit (enough (own_count q.problem)) right.few (leaves right.limit right.is_given)
 
-all_decided : (given : Option ℕ) (qs : List Question) (rs : List Report) → AreRight given qs rs → LeavesEnough given qs → raises_of_all rs ≡ 0 → AreDecided qs rs
-all_decided given [] [] right leaves none = tt
-all_decided given [] (r ∷ rs) right leaves none = absurd right
-all_decided given (q ∷ qs) [] right leaves none = absurd right
-all_decided given (q ∷ qs) (r ∷ rs) right leaves none = (
-  decided_one given q r right.0 (λ m e. (leaves m e).0) (omega (arith, none)),
-  all_decided given qs rs right.1 (λ m e. (leaves m e).1) (omega (arith, none)),
+all_decided : (rules : Rules) (listed : List Shared) (qs : List Question) (bs : List Block) → AreRight rules listed qs bs → LeavesEnough rules.max_conflicts qs → raises_of_all bs ≡ 0 → AreDecided qs bs
+all_decided rules listed [] [] right leaves none = tt
+all_decided rules listed [] (b ∷ bs) right leaves none = absurd right
+all_decided rules listed (q ∷ qs) [] right leaves none = absurd right
+all_decided rules listed (q ∷ qs) (b ∷ bs) right leaves none = (
+  decided_one rules q b.told right.0 (λ m e. (leaves m e).0) (omega (arith, none)),
+  all_decided rules (listed ++ b.entries) qs bs right.2 (λ m e. (leaves m e).1) (omega (arith, none)),
 )
 
--- the last of decided reports is a verdict
-last_decided : (qs : List Question) (rs : List Report) (last : Report) → AreDecided qs (rs ++ last ∷ []) → (q : Question) × IsDecided q last
+-- the last of decided blocks is a verdict
+last_decided : (qs : List Question) (bs : List Block) (last : Block) → AreDecided qs (bs ++ last ∷ []) → (q : Question) × IsDecided q last.told
 last_decided [] [] last d = absurd d
-last_decided [] (r ∷ rs) last d = absurd d
+last_decided [] (b ∷ bs) last d = absurd d
 last_decided (q ∷ qs) [] last d = (q, d.0)
-last_decided (q ∷ qs) (r ∷ rs) last d = last_decided qs rs last d.1
+last_decided (q ∷ qs) (b ∷ bs) last d = last_decided qs bs last d.1
 
 decided_status : (q : Question) (last : Report) (status : ℕ) → status ≡ status_of last → IsDecided q last → IsAmong (10 ∷ 20 ∷ []) status
 decided_status q (report.Verdict (verdict.Sat values)) status e d = inl e
@@ -105,7 +106,7 @@ not_low status low (inr (inr (inr e))) h f = e
 
 -- every question was answered
 answered_run : (words : List (List ℕ)) (options : Options) (last : Report) (status : ℕ) (before now : Port) (old new : World) → options_of words ≡ Some options → status ≡ status_of last
-    → AnswersText (input_of options) last before now (set_world options old) new → ReadsNoMore (most_read options) before.bytes now.bytes → RunsRight words status before now old new
+    → AnswersText (input_of options) last before now (set_world options old) (end_world options new) → ReadsNoMore (most_read options) before.bytes now.bytes → RunsRight words status before now old new
 answered_run words options last status before now old new taken e h little =
     let high = report_status last status e in
     let same : (other : Options) → options_of words ≡ Some other → options ≡ other = λ other f. same_options words options other taken f in
@@ -115,11 +116,12 @@ answered_run words options last status before now old new taken e h little =
       words_refused = (λ one. absurd (not_low status 1 high (omega arith) one), λ none. absurd (not_refused words options taken none));
       untouched = λ one. absurd (not_low status 1 high (omega arith) one);
       limited = λ other f. tells.settings.max_conflicts ∙ ap (λ (o : Options). o.max_conflicts) (same other f);
-      answered = λ other f among. subst (λ (o : Options). (r : Report) × (status ≡ status_of r) × AnswersText (input_of o) r before now (set_world o old) new) (same other f) (last, e, h);
+      threaded = λ other f. tells.settings.threads ∙ ap threads_of (same other f);
+      answered = λ other f among. subst (λ (o : Options). (r : Report) × (status ≡ status_of r) × AnswersText (input_of o) r before now (set_world o old) (end_world o new)) (same other f) (last, e, h);
       refused = λ other f text told two. absurd (not_low status 2 high (omega arith) two);
       refused_exactly = λ other f text told three four five. (
         λ two. absurd (not_low status 2 high (omega arith) two),
-        λ unended. absurd (unended (subst (λ (o : Options). (reading_with o text).end ≡ Ended) (same other f) (ap (λ (r : Reading). r.end) (whole_reading (input_of options) last before now (set_world options old) new text told h) ∙ h.answered.ended))),
+        λ unended. absurd (unended (subst (λ (o : Options). (reading_with o text).end ≡ Ended) (same other f) (ap (λ (r : Reading). r.end) (whole_reading (input_of options) last before now (set_world options old) (end_world options new) text told h) ∙ h.answered.ended))),
       );
       read_fault = λ three. absurd (not_low status 3 high (omega arith) three);
       read_failed = λ other f three. absurd (not_low status 3 high (omega arith) three);
@@ -132,14 +134,14 @@ answered_run words options last status before now old new taken e h little =
       later = tells.later;
       complete = λ other f text told ended no_read no_write no_raise leaves. inr (
           let P = λ (o : Options). LeavesEnough o.max_conflicts (questions_of (reading_with o text)) in
-          let whole = whole_reading (input_of options) last before now (set_world options old) new text told h in
+          let whole = whole_reading (input_of options) last before now (set_world options old) (end_world options new) text told h in
           let left : LeavesEnough options.max_conflicts (questions_of (reading_of (limits_of (input_of options)) h.text)) =
           subst (λ (r : Reading). LeavesEnough options.max_conflicts (questions_of r)) whole (subst P (sym (same other f)) leaves) in
-          let decided = all_decided options.max_conflicts (questions_of (reading_of (limits_of (input_of options)) h.text)) (h.answered.earlier ++ last ∷ []) tells.right left (no_raises _ old.raised new.raised tells.raised no_raise) in
-          let one = last_decided (questions_of (reading_of (limits_of (input_of options)) h.text)) h.answered.earlier last decided in (
+          let decided = all_decided (rules_of (set_world options old)) (listed_in (set_world options old)) (questions_of (reading_of (limits_of (input_of options)) h.text)) (h.answered.earlier ++ block last h.answered.entries ∷ []) tells.right left (no_raises _ old.raised new.raised tells.raised no_raise) in
+          let one = last_decided (questions_of (reading_of (limits_of (input_of options)) h.text)) h.answered.earlier (block last h.answered.entries) decided in (
             decided_status one.0 last status e one.1,
             subst (λ (o : Options). DecidesAll (questions_of (reading_with o text)) old new) (same other f)
-                (subst (λ (r : Reading). DecidesAll (questions_of r) old new) (sym whole) (record { reports = h.answered.earlier ++ last ∷ []; decided = decided; written = h.answered.written })),
+                (subst (λ (r : Reading). DecidesAll (questions_of r) old new) (sym whole) (record { blocks = h.answered.earlier ++ block last h.answered.entries ∷ []; decided = decided; written = h.answered.written })),
           )
           );
     }
@@ -215,28 +217,29 @@ refused_end r old new h e = let why = h.refused in cc
 
 -- the run stopped before all questions were answered
 stopped_run : (words : List (List ℕ)) (options : Options) (s : Stop) (status : ℕ) (before now : Port) (old new : World) → options_of words ≡ Some options → status ≡ status_at s
-    → StopsText (input_of options) s before now (set_world options old) new → ReadsNoMore (most_read options) before.bytes now.bytes → RunsRight words status before now old new
+    → StopsText (input_of options) s before now (set_world options old) (end_world options new) → ReadsNoMore (most_read options) before.bytes now.bytes → RunsRight words status before now old new
 stopped_run words options s status before now old new taken e h little = subst (λ (n : ℕ). RunsRight words n before now old new) (sym e) (record {
   statuses = bounds.0;
   words_refused = (λ one. absurd (omega (arith, bounds.1)), λ none. absurd (not_refused words options taken none));
   untouched = λ one. absurd (omega (arith, bounds.1));
   limited = λ other f. h.settings.max_conflicts ∙ ap (λ (o : Options). o.max_conflicts) (same other f);
+  threaded = λ other f. h.settings.threads ∙ ap threads_of (same other f);
   answered = λ other f among. absurd (not_low (status_at s) (status_at s) among (omega (arith, bounds.2)) refl);
   refused = refusal;
-  refused_exactly = λ other f text told three four five. (λ two. refused_end (reading_with other text) (set_world other old) new (refusal other f text told two), λ unended. only_two s three four five);
+  refused_exactly = λ other f text told three four five. (λ two. refused_end (reading_with other text) (set_world other old) (end_world other new) (refusal other f text told two), λ unended. only_two s three four five);
   read_fault = λ three. subst (λ (x : Stop). IsSourceAt x before now) (is_read s three) h.source;
-  read_failed = λ other f three. subst (λ (o : Options). AnswersDecided (input_of o) before now (set_world o old) new) (same other f) (record { text = h.text; consumed = h.consumed; carries = h.decided (is_read s three) });
+  read_failed = λ other f three. subst (λ (o : Options). AnswersDecided (input_of o) before now (set_world o old) (end_world o new)) (same other f) (record { text = h.text; consumed = h.consumed; carries = h.decided (is_read s three) });
   write_fault = λ four. subst (λ (x : Stop). IsSinkAt x old.sink new.sink) (is_write s four) h.sink;
-  write_failed = λ other f text told four. subst (λ (o : Options). StopsRight stop.Write (reading_with o text) (set_world o old) new) (same other f)
-      (right_at (input_of options) s stop.Write before now (set_world options old) new text (is_write s four) (λ x. cc) told h);
+  write_failed = λ other f text told four. subst (λ (o : Options). StopsRight stop.Write (reading_with o text) (set_world o old) (end_world o new)) (same other f)
+      (right_at (input_of options) s stop.Write before now (set_world options old) (end_world options new) text (is_write s four) (λ x. cc) told h);
   reads_kept = λ three. source_kept s before now three h.source;
   writes_kept = λ four. sink_kept s old.sink new.sink four h.sink;
-  out_of_memory = λ other f text told five. subst (λ (o : Options). StopsRight stop.Memory (reading_with o text) (set_world o old) new) (same other f)
-      (right_at (input_of options) s stop.Memory before now (set_world options old) new text (is_memory s five) (λ x. cc) told h);
+  out_of_memory = λ other f text told five. subst (λ (o : Options). StopsRight stop.Memory (reading_with o text) (set_world o old) (end_world o new)) (same other f)
+      (right_at (input_of options) s stop.Memory before now (set_world options old) (end_world options new) text (is_memory s five) (λ x. cc) told h);
   reads_little = λ other f. subst (λ (o : Options). ReadsNoMore (most_read o) before.bytes now.bytes) (same other f) little;
   later = h.later;
   complete = λ other f text told ended no_read no_write no_raise leaves. inl (only_five s
-      (λ two. refused_end (reading_with other text) (set_world other old) new (refusal other f text told two) ended)
+      (λ two. refused_end (reading_with other text) (set_world other old) (end_world other new) (refusal other f text told two) ended)
       (λ three. no_read (subst (λ (x : Stop). IsSourceAt x before now) (is_read s three) h.source))
       (λ four. no_write (subst (λ (x : Stop). IsSinkAt x old.sink new.sink) (is_write s four) h.sink)));
 })
@@ -247,9 +250,9 @@ stopped_run words options s status before now old new taken e h little = subst (
     same : (other : Options) → options_of words ≡ Some other → options ≡ other
     same other f = same_options words options other taken f
 
-    refusal : (other : Options) → options_of words ≡ Some other → (text : List ℕ) → before.bytes ≡ Some text → status_at s ≡ 2 → AnswersRefusal (reading_with other text) (set_world other old) new
-    refusal other f text told two = subst (λ (o : Options). AnswersRefusal (reading_with o text) (set_world o old) new) (same other f)
-        (right_at (input_of options) s stop.Refused before now (set_world options old) new text (is_refused s two) (λ x. cc) told h)
+    refusal : (other : Options) → options_of words ≡ Some other → (text : List ℕ) → before.bytes ≡ Some text → status_at s ≡ 2 → AnswersRefusal (reading_with other text) (set_world other old) (end_world other new)
+    refusal other f text told two = subst (λ (o : Options). AnswersRefusal (reading_with o text) (set_world o old) (end_world o new)) (same other f)
+        (right_at (input_of options) s stop.Refused before now (set_world options old) (end_world options new) text (is_refused s two) (λ x. cc) told h)
 
 -- the words are not taken
 pub ran_not : (words : List (List ℕ)) (before : Port) (old : World) → options_of words ≡ None → RunsRight words 1 before before old old
@@ -259,6 +262,7 @@ ran_not words before old e =
       words_refused = (λ _. e, λ _. refl);
       untouched = λ _. (refl, refl);
       limited = λ o f. absurd (not_refused words o f e);
+      threaded = λ o f. absurd (not_refused words o f e);
       answered = λ o f among. absurd (not_refused words o f e);
       refused = λ o f text told two. absurd (not_refused words o f e);
       refused_exactly = λ o f text told three four five. absurd (not_refused words o f e);
@@ -274,17 +278,17 @@ ran_not words before old e =
       complete = λ o f text told ended no_read no_write no_raise leaves. absurd (not_refused words o f e);
     }
 
--- the same, from the solver on whose limit the words set
+-- the same, from the solver whose limit and threads the words set
 pub ran_answer : (words : List (List ℕ)) (options : Options) (limits : LimitNumbers) (last : Report) (status : ℕ) (before now : Port) (old between new : World) → options_of words ≡ Some options → limits.input ≡ input_of options → between ≡ set_world options old
-    → status ≡ status_of last → AnswersText limits.input last before now between new → ReadsNoMore (limits.input + 65536) before.bytes now.bytes → RunsRight words status before now old new
+    → status ≡ status_of last → AnswersText limits.input last before now between (end_world options new) → ReadsNoMore (limits.input + 65536) before.bytes now.bytes → RunsRight words status before now old new
 ran_answer words options limits last status before now old between new taken same set e h little =
     answered_run words options last status before now old new taken e
-    (subst (λ (n : ℕ). AnswersText n last before now (set_world options old) new) same (subst (λ (w : World). AnswersText limits.input last before now w new) set h))
+    (subst (λ (n : ℕ). AnswersText n last before now (set_world options old) (end_world options new)) same (subst (λ (w : World). AnswersText limits.input last before now w (end_world options new)) set h))
     (subst (λ (n : ℕ). ReadsNoMore (n + 65536) before.bytes now.bytes) same little)
 
 pub ran_stop : (words : List (List ℕ)) (options : Options) (limits : LimitNumbers) (s : Stop) (status : ℕ) (before now : Port) (old between new : World) → options_of words ≡ Some options → limits.input ≡ input_of options → between ≡ set_world options old
-    → status ≡ status_at s → StopsText limits.input s before now between new → ReadsNoMore (limits.input + 65536) before.bytes now.bytes → RunsRight words status before now old new
+    → status ≡ status_at s → StopsText limits.input s before now between (end_world options new) → ReadsNoMore (limits.input + 65536) before.bytes now.bytes → RunsRight words status before now old new
 ran_stop words options limits s status before now old between new taken same set e h little =
     stopped_run words options s status before now old new taken e
-    (subst (λ (n : ℕ). StopsText n s before now (set_world options old) new) same (subst (λ (w : World). StopsText limits.input s before now w new) set h))
+    (subst (λ (n : ℕ). StopsText n s before now (set_world options old) (end_world options new)) same (subst (λ (w : World). StopsText limits.input s before now w (end_world options new)) set h))
     (subst (λ (n : ℕ). ReadsNoMore (n + 65536) before.bytes now.bytes) same little)

@@ -35,7 +35,7 @@ conflict_report Unsat before now assumptions lits turned raised_before raised_no
     let same : lits ≡ map negated told.failed = same_some lits (map negated told.failed) now.conflict conflict told.conflict in
     let failed : told.failed ≡ turned = sym (negated_twice told.failed) ∙ ap (map negated) (sym same) ∙ sym back in
     record {
-      right = subst (λ (ls : List Lit). IsRight before.problem assumptions (verdict.Unsat ls)) failed told.right;
+      right = λ shares. subst (λ (ls : List Lit). IsRight before.problem assumptions (verdict.Unsat ls)) failed told.right;
       told = told.conflict ∙ ap (λ (ls : List Lit). Some (map negated ls)) failed;
       counted = omega arith;
       raised = omega arith;

@@ -1,4 +1,4 @@
-ghost use Rattle.std.specs.Prelude.{◌≡◌, ◌≤◌, ◌^◌, [], ◌∷◌, length, IfOk, IfErr, true};
+ghost use Rattle.std.specs.Prelude.{◌≡◌, ◌≤◌, ◌^◌, [], ◌∷◌, length, drop, if◌then◌else◌, IfOk, IfErr, true};
 ghost use Rattle.sat_lits.specs.Formulas.{names_known};
 ghost use Rattle.sat_lits.specs.declared.formula.Item.TheVariants.{Clause};
 ghost use Rattle.sat_api.specs.State.{Keeps};
@@ -8,9 +8,9 @@ ghost use Rattle.sat_run.specs.World.{world, AnswersOne, StopsAmong};
 
 use crate::failures::Halt;
 use crate::report::{Report, report_of};
-use crate::write::write_report;
+use crate::write::write_block;
 use sat_api::{Answer, ApiError, SatSolver};
-use sat_lits::{Lit, NoMemory};
+use sat_lits::{Lit, NoMemory, Shared};
 use sat_ports::{Alarm, Sink};
 use std::alloc::Global;
 use std::thread::Threads;
@@ -37,10 +37,21 @@ fn ask<R: Threads + Sync, A: Alarm + Send>(
     }
 }
 
+/// The shared clauses behind the first `before`, where they are to be listed, and else none.
+fn entries_behind(solver: &SatSolver, shares: bool, before: usize) -> &[Shared]
+    requires { before ≤ length solver.now.shared }
+    ensures { result.now ≡ if shares then drop before solver.now.shared else [] }
+{
+    let all = solver.shared();
+    let from = if shares { before } else { all.len() };
+    &all[from..]
+}
+
 /// Asks a question, makes its block whole, and then writes it.
 pub fn answer<R: Threads + Sync, K: Sink, A: Alarm + Send>(
     rt: &R,
     alloc: Global,
+    shares: bool,
     sink: &mut K,
     alarm: &mut A,
     solver: &mut SatSolver,
@@ -49,14 +60,16 @@ pub fn answer<R: Threads + Sync, K: Sink, A: Alarm + Send>(
     requires few { length assumptions.now ≤ 2 ^ 31 }
     requires known { names_known solver.old.problem.vars (Clause assumptions.now) ≡ true }
     ensures ok { IfOk result (λ report. AnswersOne (question solver.old.problem assumptions.now) report
-        (world solver.old (A.raises alarm.old) (K.written sink.old) (K.faults sink.old))
-        (world solver.new (A.raises alarm.new) (K.written sink.new) (K.faults sink.new))) }
+        (world shares solver.old (A.raises alarm.old) (K.written sink.old) (K.faults sink.old))
+        (world shares solver.new (A.raises alarm.new) (K.written sink.new) (K.faults sink.new))) }
     ensures err { IfErr result (λ halt. StopsAmong halt (question solver.old.problem assumptions.now ∷ [])
-        (world solver.old (A.raises alarm.old) (K.written sink.old) (K.faults sink.old))
-        (world solver.new (A.raises alarm.new) (K.written sink.new) (K.faults sink.new))) }
+        (world shares solver.old (A.raises alarm.old) (K.written sink.old) (K.faults sink.old))
+        (world shares solver.new (A.raises alarm.new) (K.written sink.new) (K.faults sink.new))) }
 {
+    let before = solver.shared().len();
     let answer = ask(rt, alarm, solver, assumptions)?;
     let report = report_of(alloc, answer, solver)?;
-    write_report(alloc, sink, &report)?;
+    let entries = entries_behind(solver, shares, before);
+    write_block(alloc, sink, &report, entries)?;
     Ok(report)
 }

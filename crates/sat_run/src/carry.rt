@@ -112,6 +112,7 @@ fn take_parity(solver: &mut SatSolver, vars: &[Var], rhs: bool) -> Result<(), No
 fn take_question<R: Threads + Sync, K: Sink, A: Alarm + Send>(
     rt: &R,
     alloc: Global,
+    shares: bool,
     sink: &mut K,
     alarm: &mut A,
     solver: &mut SatSolver,
@@ -119,14 +120,14 @@ fn take_question<R: Threads + Sync, K: Sink, A: Alarm + Send>(
 ) -> Result<(), Halt>
     requires { HasRoomFor (Solve assumptions.now ∷ []) solver.old }
     ensures ok { OnOk result (Carries (Solve assumptions.now ∷ [])
-        (world solver.old (A.raises alarm.old) (K.written sink.old) (K.faults sink.old))
-        (world solver.new (A.raises alarm.new) (K.written sink.new) (K.faults sink.new))) }
+        (world shares solver.old (A.raises alarm.old) (K.written sink.old) (K.faults sink.old))
+        (world shares solver.new (A.raises alarm.new) (K.written sink.new) (K.faults sink.new))) }
     ensures err { IfErr result (λ halt. StopsAmong halt (questions_from solver.old.problem (Solve assumptions.now ∷ []))
-        (world solver.old (A.raises alarm.old) (K.written sink.old) (K.faults sink.old))
-        (world solver.new (A.raises alarm.new) (K.written sink.new) (K.faults sink.new))) }
+        (world shares solver.old (A.raises alarm.old) (K.written sink.old) (K.faults sink.old))
+        (world shares solver.new (A.raises alarm.new) (K.written sink.new) (K.faults sink.new))) }
 {
     make_room(solver, reach_of_lits(assumptions));
-    answer(rt, alloc, sink, alarm, solver, assumptions)?;
+    answer(rt, alloc, shares, sink, alarm, solver, assumptions)?;
     Ok(())
 }
 
@@ -134,6 +135,7 @@ fn take_question<R: Threads + Sync, K: Sink, A: Alarm + Send>(
 fn carry_out<R: Threads + Sync, K: Sink, A: Alarm + Send>(
     rt: &R,
     alloc: Global,
+    shares: bool,
     sink: &mut K,
     alarm: &mut A,
     solver: &mut SatSolver,
@@ -141,11 +143,11 @@ fn carry_out<R: Threads + Sync, K: Sink, A: Alarm + Send>(
 ) -> Result<(), Halt>
     requires { HasRoomFor (command ∷ []) solver.old }
     ensures ok { OnOk result (Carries (command ∷ [])
-        (world solver.old (A.raises alarm.old) (K.written sink.old) (K.faults sink.old))
-        (world solver.new (A.raises alarm.new) (K.written sink.new) (K.faults sink.new))) }
+        (world shares solver.old (A.raises alarm.old) (K.written sink.old) (K.faults sink.old))
+        (world shares solver.new (A.raises alarm.new) (K.written sink.new) (K.faults sink.new))) }
     ensures err { IfErr result (λ halt. StopsAmong halt (questions_from solver.old.problem (command ∷ []))
-        (world solver.old (A.raises alarm.old) (K.written sink.old) (K.faults sink.old))
-        (world solver.new (A.raises alarm.new) (K.written sink.new) (K.faults sink.new))) }
+        (world shares solver.old (A.raises alarm.old) (K.written sink.old) (K.faults sink.old))
+        (world shares solver.new (A.raises alarm.new) (K.written sink.new) (K.faults sink.new))) }
 {
     match command {
         Command::Clause(lits) => {
@@ -161,7 +163,15 @@ fn carry_out<R: Threads + Sync, K: Sink, A: Alarm + Send>(
             Ok(())
         }
         Command::Solve(assumptions) => {
-            take_question(rt, alloc, sink, alarm, solver, assumptions.as_slice())
+            take_question(
+                rt,
+                alloc,
+                shares,
+                sink,
+                alarm,
+                solver,
+                assumptions.as_slice(),
+            )
         }
     }
 }
@@ -170,6 +180,7 @@ fn carry_out<R: Threads + Sync, K: Sink, A: Alarm + Send>(
 pub fn carry_out_all<R: Threads + Sync, K: Sink, A: Alarm + Send>(
     rt: &R,
     alloc: Global,
+    shares: bool,
     sink: &mut K,
     alarm: &mut A,
     solver: &mut SatSolver,
@@ -177,14 +188,14 @@ pub fn carry_out_all<R: Threads + Sync, K: Sink, A: Alarm + Send>(
 ) -> Result<(), Halt>
     requires room { HasRoomFor commands.old solver.old }
     ensures ok { OnOk result (Carries commands.old
-        (world solver.old (A.raises alarm.old) (K.written sink.old) (K.faults sink.old))
-        (world solver.new (A.raises alarm.new) (K.written sink.new) (K.faults sink.new))) }
+        (world shares solver.old (A.raises alarm.old) (K.written sink.old) (K.faults sink.old))
+        (world shares solver.new (A.raises alarm.new) (K.written sink.new) (K.faults sink.new))) }
     ensures err { IfErr result (λ halt. StopsAmong halt (questions_from solver.old.problem commands.old)
-        (world solver.old (A.raises alarm.old) (K.written sink.old) (K.faults sink.old))
-        (world solver.new (A.raises alarm.new) (K.written sink.new) (K.faults sink.new))) }
+        (world shares solver.old (A.raises alarm.old) (K.written sink.old) (K.faults sink.old))
+        (world shares solver.new (A.raises alarm.new) (K.written sink.new) (K.faults sink.new))) }
 {
     while let Some(command) = commands.take_first() {
-        carry_out(rt, alloc, sink, alarm, solver, command)?;
+        carry_out(rt, alloc, shares, sink, alarm, solver, command)?;
     }
     Ok(())
 }

@@ -19,6 +19,7 @@ use std::thread::Threads;
 pub fn refuse<R: Threads + Sync, K: Sink, A: Alarm + Send>(
     rt: &R,
     alloc: Global,
+    shares: bool,
     sink: &mut K,
     alarm: &mut A,
     solver: &mut SatSolver,
@@ -26,11 +27,11 @@ pub fn refuse<R: Threads + Sync, K: Sink, A: Alarm + Send>(
     why: Refusal,
 ) -> Stop
     requires room { HasRoomFor commands.old solver.old }
-    ensures { ForRun (world solver.old (A.raises alarm.old) (K.written sink.old) (K.faults sink.old))
+    ensures { ForRun (world shares solver.old (A.raises alarm.old) (K.written sink.old) (K.faults sink.old))
         (λ start given. StopsRight result (record { commands = given ++ commands.old; end = Refused why }) start
-        (world solver.new (A.raises alarm.new) (K.written sink.new) (K.faults sink.new))) }
+        (world shares solver.new (A.raises alarm.new) (K.written sink.new) (K.faults sink.new))) }
 {
-    match carry_out_all(rt, alloc, sink, alarm, solver, commands) {
+    match carry_out_all(rt, alloc, shares, sink, alarm, solver, commands) {
         Ok(()) => match write_refusal(alloc, sink, &why) {
             Ok(()) => Stop::Refused,
             Err(halt) => Stop::from(halt),
@@ -43,18 +44,19 @@ pub fn refuse<R: Threads + Sync, K: Sink, A: Alarm + Send>(
 pub fn close<R: Threads + Sync, K: Sink, A: Alarm + Send>(
     rt: &R,
     alloc: Global,
+    shares: bool,
     sink: &mut K,
     alarm: &mut A,
     solver: &mut SatSolver,
 ) -> Result<Report, Stop>
-    ensures ok { IfOk result (λ report. ForRun (world solver.old (A.raises alarm.old) (K.written sink.old) (K.faults sink.old))
+    ensures ok { IfOk result (λ report. ForRun (world shares solver.old (A.raises alarm.old) (K.written sink.old) (K.faults sink.old))
         (λ start given. AnswersAll (record { commands = given; end = Ended }) report start
-        (world solver.new (A.raises alarm.new) (K.written sink.new) (K.faults sink.new)))) }
-    ensures err { IfErr result (λ stop. ForRun (world solver.old (A.raises alarm.old) (K.written sink.old) (K.faults sink.old))
+        (world shares solver.new (A.raises alarm.new) (K.written sink.new) (K.faults sink.new)))) }
+    ensures err { IfErr result (λ stop. ForRun (world shares solver.old (A.raises alarm.old) (K.written sink.old) (K.faults sink.old))
         (λ start given. StopsRight stop (record { commands = given; end = Ended }) start
-        (world solver.new (A.raises alarm.new) (K.written sink.new) (K.faults sink.new)))) }
+        (world shares solver.new (A.raises alarm.new) (K.written sink.new) (K.faults sink.new)))) }
 {
-    match answer(rt, alloc, sink, alarm, solver, &[]) {
+    match answer(rt, alloc, shares, sink, alarm, solver, &[]) {
         Ok(report) => Ok(report),
         Err(halt) => Err(Stop::from(halt)),
     }
@@ -64,21 +66,22 @@ pub fn close<R: Threads + Sync, K: Sink, A: Alarm + Send>(
 pub fn carry_out_last<R: Threads + Sync, K: Sink, A: Alarm + Send>(
     rt: &R,
     alloc: Global,
+    shares: bool,
     sink: &mut K,
     alarm: &mut A,
     solver: &mut SatSolver,
     commands: &mut Commands,
 ) -> Result<Report, Stop>
     requires room { HasRoomFor commands.old solver.old }
-    ensures ok { IfOk result (λ report. ForRun (world solver.old (A.raises alarm.old) (K.written sink.old) (K.faults sink.old))
+    ensures ok { IfOk result (λ report. ForRun (world shares solver.old (A.raises alarm.old) (K.written sink.old) (K.faults sink.old))
         (λ start given. AnswersAll (record { commands = given ++ commands.old; end = Ended }) report start
-        (world solver.new (A.raises alarm.new) (K.written sink.new) (K.faults sink.new)))) }
-    ensures err { IfErr result (λ stop. ForRun (world solver.old (A.raises alarm.old) (K.written sink.old) (K.faults sink.old))
+        (world shares solver.new (A.raises alarm.new) (K.written sink.new) (K.faults sink.new)))) }
+    ensures err { IfErr result (λ stop. ForRun (world shares solver.old (A.raises alarm.old) (K.written sink.old) (K.faults sink.old))
         (λ start given. StopsRight stop (record { commands = given ++ commands.old; end = Ended }) start
-        (world solver.new (A.raises alarm.new) (K.written sink.new) (K.faults sink.new)))) }
+        (world shares solver.new (A.raises alarm.new) (K.written sink.new) (K.faults sink.new)))) }
 {
-    match carry_out_all(rt, alloc, sink, alarm, solver, commands) {
-        Ok(()) => close(rt, alloc, sink, alarm, solver),
+    match carry_out_all(rt, alloc, shares, sink, alarm, solver, commands) {
+        Ok(()) => close(rt, alloc, shares, sink, alarm, solver),
         Err(halt) => Err(Stop::from(halt)),
     }
 }

@@ -18,6 +18,7 @@ use std::thread::Threads;
 pub fn take_piece<R: Threads + Sync, K: Sink, A: Alarm + Send>(
     rt: &R,
     alloc: Global,
+    shares: bool,
     reader: &mut Reader,
     piece: &[u8],
     sink: &mut K,
@@ -25,23 +26,24 @@ pub fn take_piece<R: Threads + Sync, K: Sink, A: Alarm + Send>(
     solver: &mut SatSolver,
 ) -> Result<(), Stop>
     requires carried { (input : ℕ) × (text : List ℕ) × (start : World) × HasCarried input text reader.old start
-        (world solver.old (A.raises alarm.old) (K.written sink.old) (K.faults sink.old)) }
-    ensures ok { OnOk result (ForText reader.old (world solver.old (A.raises alarm.old) (K.written sink.old) (K.faults sink.old))
+        (world shares solver.old (A.raises alarm.old) (K.written sink.old) (K.faults sink.old)) }
+    ensures ok { OnOk result (ForText reader.old (world shares solver.old (A.raises alarm.old) (K.written sink.old) (K.faults sink.old))
         (λ input text start. HasCarried input (text ++ piece.now) reader.new start
-        (world solver.new (A.raises alarm.new) (K.written sink.new) (K.faults sink.new)))) }
-    ensures err { IfErr result (λ stop. ForText reader.old (world solver.old (A.raises alarm.old) (K.written sink.old) (K.faults sink.old))
+        (world shares solver.new (A.raises alarm.new) (K.written sink.new) (K.faults sink.new)))) }
+    ensures err { IfErr result (λ stop. ForText reader.old (world shares solver.old (A.raises alarm.old) (K.written sink.old) (K.faults sink.old))
         (λ input text start. (rest : List ℕ) → StopsRight stop (reading_of (limits_of input) ((text ++ piece.now) ++ rest)) start
-        (world solver.new (A.raises alarm.new) (K.written sink.new) (K.faults sink.new)))) }
+        (world shares solver.new (A.raises alarm.new) (K.written sink.new) (K.faults sink.new)))) }
 {
     let mut commands = Commands::new(alloc);
     match reader.feed(piece, &mut commands) {
-        Ok(()) => match carry_out_all(rt, alloc, sink, alarm, solver, &mut commands) {
+        Ok(()) => match carry_out_all(rt, alloc, shares, sink, alarm, solver, &mut commands) {
             Ok(()) => Ok(()),
             Err(halt) => Err(Stop::from(halt)),
         },
         Err(ReadError::Refused(why)) => Err(refuse(
             rt,
             alloc,
+            shares,
             sink,
             alarm,
             solver,
@@ -56,26 +58,28 @@ pub fn take_piece<R: Threads + Sync, K: Sink, A: Alarm + Send>(
 pub fn take_end<R: Threads + Sync, K: Sink, A: Alarm + Send>(
     rt: &R,
     alloc: Global,
+    shares: bool,
     reader: &mut Reader,
     sink: &mut K,
     alarm: &mut A,
     solver: &mut SatSolver,
 ) -> Result<Report, Stop>
     requires carried { (input : ℕ) × (text : List ℕ) × (start : World) × HasCarried input text reader.old start
-        (world solver.old (A.raises alarm.old) (K.written sink.old) (K.faults sink.old)) }
-    ensures ok { IfOk result (λ report. ForText reader.old (world solver.old (A.raises alarm.old) (K.written sink.old) (K.faults sink.old))
+        (world shares solver.old (A.raises alarm.old) (K.written sink.old) (K.faults sink.old)) }
+    ensures ok { IfOk result (λ report. ForText reader.old (world shares solver.old (A.raises alarm.old) (K.written sink.old) (K.faults sink.old))
         (λ input text start. AnswersAll (reading_of (limits_of input) text) report start
-        (world solver.new (A.raises alarm.new) (K.written sink.new) (K.faults sink.new)))) }
-    ensures err { IfErr result (λ stop. ForText reader.old (world solver.old (A.raises alarm.old) (K.written sink.old) (K.faults sink.old))
+        (world shares solver.new (A.raises alarm.new) (K.written sink.new) (K.faults sink.new)))) }
+    ensures err { IfErr result (λ stop. ForText reader.old (world shares solver.old (A.raises alarm.old) (K.written sink.old) (K.faults sink.old))
         (λ input text start. StopsRight stop (reading_of (limits_of input) text) start
-        (world solver.new (A.raises alarm.new) (K.written sink.new) (K.faults sink.new)))) }
+        (world shares solver.new (A.raises alarm.new) (K.written sink.new) (K.faults sink.new)))) }
 {
     let mut commands = Commands::new(alloc);
     match reader.finish(&mut commands) {
-        Ok(()) => carry_out_last(rt, alloc, sink, alarm, solver, &mut commands),
+        Ok(()) => carry_out_last(rt, alloc, shares, sink, alarm, solver, &mut commands),
         Err(ReadError::Refused(why)) => Err(refuse(
             rt,
             alloc,
+            shares,
             sink,
             alarm,
             solver,

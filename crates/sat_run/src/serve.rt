@@ -4,7 +4,7 @@ ghost use Rattle.sat_lits.specs.Formulas.{no_problem};
 ghost use Rattle.sat_api.specs.State.{new_solver};
 ghost use Rattle.sat_run.specs.Writing.{port};
 ghost use Rattle.sat_run.specs.Progress.{ReadsNoMore, limits_of};
-ghost use Rattle.sat_run.specs.World.{world};
+ghost use Rattle.sat_run.specs.World.{world, outside};
 ghost use Rattle.sat_run.specs.Runs.{AnswersText, StopsText, RunsRight};
 
 use crate::close::close;
@@ -28,6 +28,7 @@ const PIECE: usize = 65536;
 pub fn serve<R: Threads + Sync, S: Source, K: Sink, A: Alarm + Send>(
     rt: &R,
     alloc: Global,
+    shares: bool,
     limits: Limits,
     source: &mut S,
     sink: &mut K,
@@ -40,12 +41,12 @@ pub fn serve<R: Threads + Sync, S: Source, K: Sink, A: Alarm + Send>(
     requires others { limits ≡ limits_of limits.input }
     ensures ok { IfOk result (λ report. AnswersText limits.input report
         (port (S.left source.old) (S.faults source.old)) (port (S.left source.new) (S.faults source.new))
-        (world solver.old (A.raises alarm.old) (K.written sink.old) (K.faults sink.old))
-        (world solver.new (A.raises alarm.new) (K.written sink.new) (K.faults sink.new))) }
+        (world shares solver.old (A.raises alarm.old) (K.written sink.old) (K.faults sink.old))
+        (world shares solver.new (A.raises alarm.new) (K.written sink.new) (K.faults sink.new))) }
     ensures err { IfErr result (λ stop. StopsText limits.input stop
         (port (S.left source.old) (S.faults source.old)) (port (S.left source.new) (S.faults source.new))
-        (world solver.old (A.raises alarm.old) (K.written sink.old) (K.faults sink.old))
-        (world solver.new (A.raises alarm.new) (K.written sink.new) (K.faults sink.new))) }
+        (world shares solver.old (A.raises alarm.old) (K.written sink.old) (K.faults sink.old))
+        (world shares solver.new (A.raises alarm.new) (K.written sink.new) (K.faults sink.new))) }
     ensures little { ReadsNoMore (limits.input + PIECE) (S.left source.old) (S.left source.new) }
 {
     let mut reader = Reader::new(alloc, limits);
@@ -54,11 +55,20 @@ pub fn serve<R: Threads + Sync, S: Source, K: Sink, A: Alarm + Send>(
     'reading: loop {
         let count = source.read(&mut piece)?;
         if count == 0 {
-            return take_end(rt, alloc, &mut reader, sink, alarm, solver);
+            return take_end(rt, alloc, shares, &mut reader, sink, alarm, solver);
         }
-        take_piece(rt, alloc, &mut reader, &piece[..count], sink, alarm, solver)?;
+        take_piece(
+            rt,
+            alloc,
+            shares,
+            &mut reader,
+            &piece[..count],
+            sink,
+            alarm,
+            solver,
+        )?;
         if reader.ended() {
-            return close(rt, alloc, sink, alarm, solver);
+            return close(rt, alloc, shares, sink, alarm, solver);
         }
         taken += count as u64;
     }
@@ -66,11 +76,13 @@ pub fn serve<R: Threads + Sync, S: Source, K: Sink, A: Alarm + Send>(
 
 /// Does all that the program does, and answers its status.
 ///
-/// The words may set a limit on conflicts and one on input. The source is read to its end, or to the `%` that ends
-/// the formula, as a DIMACS text with questions. Its clauses and parities are given to the solver.
-/// Each question, and the one at the end that has no assumptions, is asked when it is read, and its
-/// answer is written to the sink as one block, before anything further is read: a verdict, or that
-/// the limit was spent or the alarm raised.
+/// The words may set the number of threads, a limit on conflicts and one on input, and ask for the
+/// shared clauses. The source is read to its end, or to the `%` that ends the formula, as a DIMACS text
+/// with questions. Its clauses and parities are given to the solver. Each question, and the one at the
+/// end that has no assumptions, is asked when it is read, and its answer is written to the sink as one
+/// block, before anything further is read: a verdict, or that the limit was spent or the alarm raised.
+/// Behind it stand the clauses that the threads shared since the block before, where the words ask for
+/// them.
 ///
 /// The status is 10 where the last question's answer is a model, 20 where there is none, and 15
 /// where neither is known. It is 1 exactly where the words are not taken, and then nothing is
@@ -89,14 +101,24 @@ pub fn run<R: Threads + Sync, S: Source, K: Sink, A: Alarm + Send>(
     requires { solver.old ≡ new_solver standard_limits }
     ensures { RunsRight (map (λ word. word.now) words.now) result
         (port (S.left source.old) (S.faults source.old)) (port (S.left source.new) (S.faults source.new))
-        (world solver.old (A.raises alarm.old) (K.written sink.old) (K.faults sink.old))
-        (world solver.new (A.raises alarm.new) (K.written sink.new) (K.faults sink.new)) }
+        (outside solver.old (A.raises alarm.old) (K.written sink.old) (K.faults sink.old))
+        (outside solver.new (A.raises alarm.new) (K.written sink.new) (K.faults sink.new)) }
 {
     let Ok(options) = read_words(words) else {
         return FAULTY_WORDS;
     };
-    solver.set_max_confl(options.max_conflicts);
-    match serve(rt, alloc, options.limits(), source, sink, alarm, solver) {
+    options.set(solver);
+    let shares = options.print_shared;
+    match serve(
+        rt,
+        alloc,
+        shares,
+        options.limits(),
+        source,
+        sink,
+        alarm,
+        solver,
+    ) {
         Ok(report) => report.status(),
         Err(stop) => stop.status(),
     }

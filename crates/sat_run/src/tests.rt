@@ -1,6 +1,6 @@
 use crate::report::Report;
 use crate::serve::run;
-use crate::write::write_report;
+use crate::write::write_block;
 use sat_api::SatSolver;
 use sat_lits::{List, NoMemory};
 use sat_ports::{BytesSink, BytesSource, PlainSource, Silent, Sink, Source};
@@ -272,7 +272,7 @@ fn a_text_is_refused_behind_its_limit(rt: HostRuntime) -> Result<(), Fail> {
 
 #[test]
 fn other_words_are_not_taken(rt: HostRuntime) -> Result<(), Fail> {
-    let rows: [&[&str]; 23] = [
+    let rows: [&[&str]; 31] = [
         &["--help"],
         &["--"],
         &["-"],
@@ -296,6 +296,14 @@ fn other_words_are_not_taken(rt: HostRuntime) -> Result<(), Fail> {
         &["--max-input=-4"],
         &["--max-input=4", "--max-input", "4"],
         &["--maxconfl", "1", "--max-input"],
+        &["--threads", "0"],
+        &["--threads", "65"],
+        &["--threads", "64", "--threads", "64"],
+        &["--threads=2", "--threads", "2"],
+        &["--threads"],
+        &["--threads", "--print-shared"],
+        &["--print-shared", "--print-shared"],
+        &["--print-shared=1"],
     ];
     for words in rows {
         let mut source = PlainSource::new(BOTH);
@@ -308,6 +316,24 @@ fn other_words_are_not_taken(rt: HostRuntime) -> Result<(), Fail> {
         assert_eq!(rt; sink.bytes(), b"".as_slice());
         let mut rest = [0u8; 100];
         assert_eq!(rt; source.read(&mut rest), Ok(BOTH.len()));
+    }
+    Ok(())
+}
+
+/// The shared clauses stand behind the verdict, where the words ask for them.
+#[test]
+fn shared_clauses_are_listed(rt: HostRuntime) -> Result<(), Fail> {
+    let listed: &[u8] = b"s SATISFIABLE\nv 1 0\nc shared 0 0 1 0\n";
+    let rows: [(&[&str], &[u8]); 3] = [
+        (&["--print-shared"], listed),
+        (&["--print-shared", "--threads=1"], listed),
+        (&["--threads", "64"], b"s SATISFIABLE\nv 1 0\n"),
+    ];
+    for (words, output) in rows {
+        let mut source = PlainSource::new(b"1 0\n");
+        let mut sink = wide_sink(&rt, &[])?;
+        assert_eq!(rt; run_with(&rt, words, &mut source, &mut sink), 10);
+        assert_eq!(rt; sink.bytes(), output, "at {words:?}");
     }
     Ok(())
 }
@@ -391,7 +417,7 @@ fn a_planted_formula_has_a_model(rt: HostRuntime) -> Result<(), Fail> {
 fn a_spent_limit_is_told(rt: HostRuntime) -> Result<(), Fail> {
     let mut sink = wide_sink(&rt, &[])?;
     let report = Report::Limit(List::from_slice(rt.alloc(), &[109])?);
-    assert_eq!(rt; write_report(rt.alloc(), &mut sink, &report), Ok(()));
+    assert_eq!(rt; write_block(rt.alloc(), &mut sink, &report, &[]), Ok(()));
     assert_eq!(rt; report.status(), 15);
     assert_eq!(rt; sink.bytes(), b"s INDETERMINATE\nc limit 109\n".as_slice());
     Ok(())

@@ -3,8 +3,10 @@ ghost use Rattle.std.specs.Option.{option_map, option_and_then};
 ghost use Rattle.std.specs.Str.{all_ascii_digits};
 ghost use Rattle.sat_lits.specs.Limits.{standard_limits};
 ghost use Rattle.sat_run.specs.Progress.{limits_of};
-ghost use Rattle.sat_run.specs.Words.{number_of, number_behind, setting_of, with_setting, with_number, with_word, settled, chosen_with, no_options, options_of, input_of};
+ghost use Rattle.sat_api.specs.State.{new_solver};
+ghost use Rattle.sat_run.specs.Words.{number_of, setting_of, with_limit, with_input, with_threads, with_shared, with_setting, with_number, with_word, settled, chosen_with, no_options, options_of, with_options, input_of, threads_of};
 
+use sat_api::SatSolver;
 use sat_lits::Limits;
 
 /// The word that the number of a conflict limit follows.
@@ -19,16 +21,29 @@ const MAX_INPUT: &str = "--max-input";
 /// What the number follows where both are one word.
 const MAX_INPUT_IS: &str = "--max-input=";
 
+/// The word that the number of threads follows.
+const THREADS: &str = "--threads";
+
+/// What the number follows where both are one word.
+const THREADS_IS: &str = "--threads=";
+
+/// The word that asks for the shared clauses.
+const PRINT_SHARED: &str = "--print-shared";
+
 /// The most digits of a number.
 const MOST_DIGITS: usize = 20;
 
 /// What the words of the command line choose.
 #[derive(Clone, Copy, Debug, PartialEq, Eq)]
 pub struct Options {
+    /// The number of threads.
+    pub threads: Option<u32>,
     /// The number of conflicts that a solver may make.
     pub max_conflicts: Option<u64>,
     /// The number of bytes that a text may have.
     pub max_input: Option<u64>,
+    /// Whether the clauses that the threads share are written.
+    pub print_shared: bool,
 }
 
 /// An option that a number follows.
@@ -36,6 +51,7 @@ pub struct Options {
 pub enum Setting {
     MaxConflicts,
     MaxInput,
+    ThreadCount,
 }
 
 impl Options {
@@ -44,8 +60,10 @@ impl Options {
         ensures { result ≡ no_options }
     {
         Options {
+            threads: None,
             max_conflicts: None,
             max_input: None,
+            print_shared: false,
         }
     }
 
@@ -59,20 +77,80 @@ impl Options {
         Limits::new(standard.vars(), standard.lits(), standard.threads(), input).unwrap()
     }
 
+    /// Sets a solver as these options say. It took nothing yet.
+    pub fn set(self, solver: &mut SatSolver)
+        requires new { solver.old ≡ new_solver standard_limits }
+        requires some { 0 < threads_of self }
+        requires few { threads_of self ≤ standard_limits.threads }
+        ensures { solver.new ≡ with_options self solver.old }
+    {
+        solver.set_max_confl(self.max_conflicts);
+        solver.set_num_threads(self.threads.unwrap_or(1)).unwrap();
+    }
+
     /// Sets an option that was not set before, where the number is one that it may have.
     fn with_setting(self, setting: Setting, number: u64) -> Option<Options>
         ensures { result ≡ with_setting self setting number }
     {
-        match (setting, self.max_conflicts, self.max_input) {
-            (Setting::MaxConflicts, None, _) => Some(Options {
-                max_conflicts: Some(number),
+        match setting {
+            Setting::MaxConflicts => self.with_limit(number),
+            Setting::MaxInput => self.with_input(number),
+            Setting::ThreadCount => self.with_threads(number),
+        }
+    }
+
+    /// Sets the conflict limit.
+    fn with_limit(self, limit: u64) -> Option<Options>
+        ensures { result ≡ with_limit self limit }
+    {
+        match self.max_conflicts {
+            None => Some(Options {
+                max_conflicts: Some(limit),
                 ..self
             }),
-            (Setting::MaxInput, _, None) if number <= Limits::standard().input() => Some(Options {
-                max_input: Some(number),
+            Some(_) => None,
+        }
+    }
+
+    /// Sets the limit on input.
+    fn with_input(self, most: u64) -> Option<Options>
+        ensures { result ≡ with_input self most }
+    {
+        match self.max_input {
+            None if most <= Limits::standard().input() => Some(Options {
+                max_input: Some(most),
                 ..self
             }),
             _ => None,
+        }
+    }
+
+    /// Sets the number of threads.
+    fn with_threads(self, count: u64) -> Option<Options>
+        ensures { result ≡ with_threads self count }
+    {
+        match self.threads {
+            None if 0 < count && count <= u64::from(Limits::standard().threads()) => {
+                Some(Options {
+                    threads: Some(count as u32),
+                    ..self
+                })
+            }
+            _ => None,
+        }
+    }
+
+    /// Asks for the shared clauses.
+    fn with_shared(self) -> Option<Options>
+        ensures { result ≡ with_shared self }
+    {
+        if self.print_shared {
+            None
+        } else {
+            Some(Options {
+                print_shared: true,
+                ..self
+            })
         }
     }
 
@@ -86,14 +164,19 @@ impl Options {
         }
     }
 
-    /// Sets what a word says that is an option's name, an equals sign and its number.
+    /// Sets what a word says that is an option without a number, or an option's name, an equals sign and
+    /// its number.
     fn with_word(self, word: &str) -> Option<Options>
         ensures { result ≡ with_word self word.now }
     {
-        if let Some(number) = word.strip_prefix(MAX_CONFLICTS_IS) {
+        if word == PRINT_SHARED {
+            self.with_shared()
+        } else if let Some(number) = word.strip_prefix(MAX_CONFLICTS_IS) {
             self.with_number(Setting::MaxConflicts, number)
         } else if let Some(number) = word.strip_prefix(MAX_INPUT_IS) {
             self.with_number(Setting::MaxInput, number)
+        } else if let Some(number) = word.strip_prefix(THREADS_IS) {
+            self.with_number(Setting::ThreadCount, number)
         } else {
             None
         }
@@ -138,6 +221,8 @@ fn setting_of(word: &str) -> Option<Setting>
         Some(Setting::MaxConflicts)
     } else if word == MAX_INPUT {
         Some(Setting::MaxInput)
+    } else if word == THREADS {
+        Some(Setting::ThreadCount)
     } else {
         None
     }
@@ -162,8 +247,9 @@ fn all_digits(word: &[u8]) -> bool
 /// What the words choose. An error comes exactly where they are not taken. It is the place, from 0,
 /// of the first word that is not; where the number of the last word is missing, that word's place.
 ///
-/// Taken are a conflict limit, as `--maxconfl 109` or `--maxconfl=109`, and a limit on the bytes of
-/// input, as `--max-input 4`, which is at most 2147483648. Each comes at most once, in any order.
+/// Taken are a number of threads from 1 to 64, as `--threads 4` or `--threads=4`, a conflict limit, as
+/// `--maxconfl 109`, a limit on the bytes of input, as `--max-input 4`, which is at most 2147483648, and
+/// `--print-shared`. Each comes at most once, in any order.
 pub fn read_words(words: &[&str]) -> Result<Options, usize>
     ensures ok { IfOk result (λ options. options_of (map (λ word. word.now) words.now) ≡ Some options) }
     ensures err { OnErr result (options_of (map (λ word. word.now) words.now) ≡ None) }

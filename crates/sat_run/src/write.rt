@@ -4,12 +4,12 @@ ghost use Rattle.sat_ports.specs.Causes.{HasCause};
 ghost use Rattle.sat_ports.specs.Writes.{AppendsFront};
 ghost use Rattle.dimacs_text.specs.Texts.{text_of_refusal};
 ghost use Rattle.sat_run.specs.Writing.{port, WritesText};
-ghost use Rattle.sat_run.specs.Reports.{text_of_report};
+ghost use Rattle.sat_run.specs.Reports.{block, text_of_report, entries_text, text_of_block};
 
 use crate::failures::Halt;
 use crate::report::Report;
-use dimacs_text::{Refusal, print_alarm, print_limit, print_refusal, print_verdict};
-use sat_lits::{List, NoMemory};
+use dimacs_text::{Refusal, print_alarm, print_limit, print_refusal, print_shared, print_verdict};
+use sat_lits::{List, NoMemory, Shared};
 use sat_ports::{Failed, Sink};
 use std::alloc::Global;
 
@@ -36,13 +36,29 @@ fn print_report(to: &mut List<u8>, report: &Report) -> Result<(), NoMemory>
     }
 }
 
-/// Writes the text of a report.
-pub fn write_report<K: Sink>(alloc: Global, sink: &mut K, report: &Report) -> Result<(), Halt>
-    ensures { WritesText (text_of_report report.now) result
+/// Appends a line for each shared clause.
+fn print_entries(to: &mut List<u8>, entries: &[Shared]) -> Result<(), NoMemory>
+    ensures { OnOk result (to.new ≡ to.old ++ entries_text entries.now) }
+{
+    for entry in entries {
+        print_shared(to, entry)?;
+    }
+    Ok(())
+}
+
+/// Writes a block: the text of a report, and behind it a line for each shared clause.
+pub fn write_block<K: Sink>(
+    alloc: Global,
+    sink: &mut K,
+    report: &Report,
+    entries: &[Shared],
+) -> Result<(), Halt>
+    ensures { WritesText (text_of_block (block report.now entries.now)) result
         (port (K.written sink.old) (K.faults sink.old)) (port (K.written sink.new) (K.faults sink.new)) }
 {
     let mut text = List::new(alloc);
     print_report(&mut text, report)?;
+    print_entries(&mut text, entries)?;
     write_all(sink, text.as_slice())?;
     Ok(())
 }

@@ -37,10 +37,7 @@ impl<'a> Complaint<'a> {
 impl fmt::Display for Complaint<'_> {
     fn fmt<W: fmt::Write>(&self, f: &mut fmt::Formatter<W>) -> fmt::Result {
         match self {
-            Complaint::Word(word) => write!(
-                f,
-                "usage: torimbava [--maxconfl N] [--max-input N] < FILE; not taken: {word:?}"
-            ),
+            Complaint::Word(word) => write!(f, "not taken: {word:?}"),
             Complaint::Read => write!(f, "torimbava: a read of standard input failed"),
             Complaint::Write => write!(f, "torimbava: a write to standard output failed"),
             Complaint::Memory => write!(f, "torimbava: memory ran out"),
@@ -57,21 +54,9 @@ mod tests {
     #[test]
     fn each_failure_is_told_in_a_line(rt: HostRuntime) -> Result<(), Fail> {
         let rows: [(u8, &[&str], &str); 8] = [
-            (
-                1,
-                &["--help"],
-                "usage: torimbava [--maxconfl N] [--max-input N] < FILE; not taken: \"--help\"",
-            ),
-            (
-                1,
-                &["--maxconfl", "1", "a b"],
-                "usage: torimbava [--maxconfl N] [--max-input N] < FILE; not taken: \"a b\"",
-            ),
-            (
-                1,
-                &["--maxconfl"],
-                "usage: torimbava [--maxconfl N] [--max-input N] < FILE; not taken: \"--maxconfl\"",
-            ),
+            (1, &["--help"], "not taken: \"--help\""),
+            (1, &["--threads", "1", "a b"], "not taken: \"a b\""),
+            (1, &["--maxconfl"], "not taken: \"--maxconfl\""),
             (3, &[], "torimbava: a read of standard input failed"),
             (4, &[], "torimbava: a write to standard output failed"),
             (5, &[], "torimbava: memory ran out"),

@@ -2,6 +2,7 @@
 #![tactic(auto)]
 
 mod complaint;
+mod usage;
 
 use complaint::Complaint;
 use sat_api::SatSolver;
@@ -12,6 +13,7 @@ use std::process::ExitCode;
 use std::rt::Env;
 use std::thread::Threads;
 use std::{env, io};
+use usage::usage;
 
 fn main(rt: HostRuntime) -> ExitCode {
     let status = match program_words(&rt) {
@@ -21,10 +23,19 @@ fn main(rt: HostRuntime) -> ExitCode {
     ExitCode::from(status)
 }
 
-/// Says on standard error what this status means, if something failed, and hands it on.
-fn told<R: Eprint>(rt: &R, status: u8, words: &[&str]) -> u8 {
-    if let Some(complaint) = Complaint::of(status, words) {
-        let _ = eprintln!(rt; "{complaint}");
+/// Says on standard error what this status means, if something failed, and hands it on. Words that are
+/// not taken are told behind the usage line, if there is memory for it.
+fn told<R: Eprint + AllocGlobal>(rt: &R, status: u8, words: &[&str]) -> u8 {
+    match Complaint::of(status, words) {
+        Some(Complaint::Word(word)) => {
+            if let Ok(usage) = usage(rt.alloc()) {
+                let _ = eprintln!(rt; "{usage}; {}", Complaint::Word(word));
+            }
+        }
+        Some(complaint) => {
+            let _ = eprintln!(rt; "{complaint}");
+        }
+        None => {}
     }
     status
 }

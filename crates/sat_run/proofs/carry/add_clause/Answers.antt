@@ -9,5 +9,5 @@ pub prove-unreachable-requires : goal.prove-unreachable-requires
 prove-unreachable-requires c =
     let memory : c.in-Err.error ≡ Memory =
     only_memory c.in-Err.error c.add_clause.result c.args.solver.now.problem.vars (lit_count c.args.solver.now.problem.items + length c.args.lits.now) c.args.solver.now.limits.lits
-    (map (λ l. l.var.0) c.args.lits.now) c.in-Err.is c.requires.known c.requires.few c.add_clause.ensures.no_such_var c.add_clause.ensures.too_many_lits c.add_clause.ensures.no_other in
+    (map (λ l. l.var.0) c.args.lits.now) c.in-Err.is c.requires.known c.requires.few c.add_clause.ensures.no_such_var c.add_clause.ensures.too_many_lits c.in-Err.ensures.only in
     elim c.match-matches.branch [ in-Memory w ↦ cc | in_default w ↦ w.in_default.not-Memory memory ]

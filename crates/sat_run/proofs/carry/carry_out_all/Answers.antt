@@ -27,9 +27,9 @@ loop-command-init g c = record { done = done_none c.args.commands.now _; room = 
 pub returns-in_err-carry_out-clause-err : goal.returns-in_err-carry_out-clause-err
 returns-in_err-carry_out-clause-err g c =
     let p = err_from_is_err_and c.from_residual.result c.from_residual.ensures.1 in
-    let start = world c.args.solver.now (g.A.Alarm.raises c.args.alarm.now) (g.K.Sink.written c.args.sink.now) (g.K.Sink.faults c.args.sink.now) in
-    let a = world c.loop-command.solver (g.A.Alarm.raises c.loop-command.alarm) (g.K.Sink.written c.loop-command.sink) (g.K.Sink.faults c.loop-command.sink) in
-    let b = world c.carry_out.new.solver (g.A.Alarm.raises c.carry_out.new.alarm) (g.K.Sink.written c.carry_out.new.sink) (g.K.Sink.faults c.carry_out.new.sink) in
+    let start = world c.args.shares c.args.solver.now (g.A.Alarm.raises c.args.alarm.now) (g.K.Sink.written c.args.sink.now) (g.K.Sink.faults c.args.sink.now) in
+    let a = world c.args.shares c.loop-command.solver (g.A.Alarm.raises c.loop-command.alarm) (g.K.Sink.written c.loop-command.sink) (g.K.Sink.faults c.loop-command.sink) in
+    let b = world c.args.shares c.carry_out.new.solver (g.A.Alarm.raises c.carry_out.new.alarm) (g.K.Sink.written c.carry_out.new.sink) (g.K.Sink.faults c.carry_out.new.sink) in
     let all = c.args.commands.now in
     let rest = c.take_first.new.self in
     let halt = c.in_err-carry_out.field-0.0 in
@@ -38,8 +38,8 @@ returns-in_err-carry_out-clause-err g c =
 
 pub loop-command-preserved : goal.loop-command-preserved
 loop-command-preserved g c =
-    let start = world c.args.solver.now (g.A.Alarm.raises c.args.alarm.now) (g.K.Sink.written c.args.sink.now) (g.K.Sink.faults c.args.sink.now) in
-    let a = world c.loop-command.solver (g.A.Alarm.raises c.loop-command.alarm) (g.K.Sink.written c.loop-command.sink) (g.K.Sink.faults c.loop-command.sink) in
-    let b = world c.carry_out.new.solver (g.A.Alarm.raises c.carry_out.new.alarm) (g.K.Sink.written c.carry_out.new.sink) (g.K.Sink.faults c.carry_out.new.sink) in
+    let start = world c.args.shares c.args.solver.now (g.A.Alarm.raises c.args.alarm.now) (g.K.Sink.written c.args.sink.now) (g.K.Sink.faults c.args.sink.now) in
+    let a = world c.args.shares c.loop-command.solver (g.A.Alarm.raises c.loop-command.alarm) (g.K.Sink.written c.loop-command.sink) (g.K.Sink.faults c.loop-command.sink) in
+    let b = world c.args.shares c.carry_out.new.solver (g.A.Alarm.raises c.carry_out.new.alarm) (g.K.Sink.written c.carry_out.new.sink) (g.K.Sink.faults c.carry_out.new.sink) in
     let m = more c.args.commands.now c.loop-command.commands c.take_first.new.self c.in-Some.command start a b c.in-Some.ensures.first c.loop-command.invariant.done c.loop-command.invariant.room c.in_ok-carry_out.ensures.ok in
     record { done = m.done; room = m.room }

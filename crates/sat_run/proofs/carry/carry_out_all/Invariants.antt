@@ -8,8 +8,8 @@ abbrev pub invariant-loop-command : goal.invariant-loop-command
 invariant-loop-command g l =
     record {
       done : HasDone l.fn.commands l.commands
-          (world l.fn.solver (g.A.Alarm.raises l.fn.alarm) (g.K.Sink.written l.fn.sink) (g.K.Sink.faults l.fn.sink))
-          (world l.solver (g.A.Alarm.raises l.alarm) (g.K.Sink.written l.sink) (g.K.Sink.faults l.sink));
+          (world l.fn.shares l.fn.solver (g.A.Alarm.raises l.fn.alarm) (g.K.Sink.written l.fn.sink) (g.K.Sink.faults l.fn.sink))
+          (world l.shares l.solver (g.A.Alarm.raises l.alarm) (g.K.Sink.written l.sink) (g.K.Sink.faults l.sink));
       room : HasRoomFor l.commands l.solver;
     }
 

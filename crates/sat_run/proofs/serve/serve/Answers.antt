@@ -12,15 +12,15 @@ use Rattle.sat_run.proofs.serve.serve.Goals as goal
 
 pub reading-init : goal.reading-init
 reading-init g c =
-    let start = world c.args.solver.now (g.A.Alarm.raises c.args.alarm.now) (g.K.Sink.written c.args.sink.now) (g.K.Sink.faults c.args.sink.now) in
+    let start = world c.args.shares c.args.solver.now (g.A.Alarm.raises c.args.alarm.now) (g.K.Sink.written c.args.sink.now) (g.K.Sink.faults c.args.sink.now) in
     reads_none c.args.limits.input c.new-reader.result (g.S.Source.left c.args.source.now) (g.S.Source.faults c.args.source.now) start
     (subst (λ (limits : LimitNumbers). HasRead limits [] [] c.new-reader.result) c.requires.others c.new-reader.ensures) c.requires.empty c.requires.standard
 
 pub returns-in_err-count-clause-err : goal.returns-in_err-count-clause-err
 returns-in_err-count-clause-err g c =
     let p = err_from_is_err_and c.from_residual.result c.from_residual.ensures.1 in
-    let start = world c.args.solver.now (g.A.Alarm.raises c.args.alarm.now) (g.K.Sink.written c.args.sink.now) (g.K.Sink.faults c.args.sink.now) in
-    let a = world c.reading.solver (g.A.Alarm.raises c.reading.alarm) (g.K.Sink.written c.reading.sink) (g.K.Sink.faults c.reading.sink) in
+    let start = world c.args.shares c.args.solver.now (g.A.Alarm.raises c.args.alarm.now) (g.K.Sink.written c.args.sink.now) (g.K.Sink.faults c.args.sink.now) in
+    let a = world c.args.shares c.reading.solver (g.A.Alarm.raises c.reading.alarm) (g.K.Sink.written c.reading.sink) (g.K.Sink.faults c.reading.sink) in
     let before = port (g.S.Source.left c.args.source.now) (g.S.Source.faults c.args.source.now) in
     let between = port (g.S.Source.left c.reading.source) (g.S.Source.faults c.reading.source) in
     let now = port (g.S.Source.left c.read.new.self) (g.S.Source.faults c.read.new.self) in
@@ -29,8 +29,8 @@ returns-in_err-count-clause-err g c =
 
 pub returns-in_err-count-clause-little : goal.returns-in_err-count-clause-little
 returns-in_err-count-clause-little g c =
-    let start = world c.args.solver.now (g.A.Alarm.raises c.args.alarm.now) (g.K.Sink.written c.args.sink.now) (g.K.Sink.faults c.args.sink.now) in
-    let a = world c.reading.solver (g.A.Alarm.raises c.reading.alarm) (g.K.Sink.written c.reading.sink) (g.K.Sink.faults c.reading.sink) in
+    let start = world c.args.shares c.args.solver.now (g.A.Alarm.raises c.args.alarm.now) (g.K.Sink.written c.args.sink.now) (g.K.Sink.faults c.args.sink.now) in
+    let a = world c.args.shares c.reading.solver (g.A.Alarm.raises c.reading.alarm) (g.K.Sink.written c.reading.sink) (g.K.Sink.faults c.reading.sink) in
     let before = port (g.S.Source.left c.args.source.now) (g.S.Source.faults c.args.source.now) in
     let between = port (g.S.Source.left c.reading.source) (g.S.Source.faults c.reading.source) in
     let now = port (g.S.Source.left c.read.new.self) (g.S.Source.faults c.read.new.self) in
@@ -41,9 +41,9 @@ take_end-requires-clause-carried g c κs within = (c.args.limits.input, c.readin
 
 pub returns-then-count-eq0-clause-ok : goal.returns-then-count-eq0-clause-ok
 returns-then-count-eq0-clause-ok g c =
-    let start = world c.args.solver.now (g.A.Alarm.raises c.args.alarm.now) (g.K.Sink.written c.args.sink.now) (g.K.Sink.faults c.args.sink.now) in
-    let a = world c.reading.solver (g.A.Alarm.raises c.reading.alarm) (g.K.Sink.written c.reading.sink) (g.K.Sink.faults c.reading.sink) in
-    let b = world c.take_end.new.solver (g.A.Alarm.raises c.take_end.new.alarm) (g.K.Sink.written c.take_end.new.sink) (g.K.Sink.faults c.take_end.new.sink) in
+    let start = world c.args.shares c.args.solver.now (g.A.Alarm.raises c.args.alarm.now) (g.K.Sink.written c.args.sink.now) (g.K.Sink.faults c.args.sink.now) in
+    let a = world c.args.shares c.reading.solver (g.A.Alarm.raises c.reading.alarm) (g.K.Sink.written c.reading.sink) (g.K.Sink.faults c.reading.sink) in
+    let b = world c.args.shares c.take_end.new.solver (g.A.Alarm.raises c.take_end.new.alarm) (g.K.Sink.written c.take_end.new.sink) (g.K.Sink.faults c.take_end.new.sink) in
     let before = port (g.S.Source.left c.args.source.now) (g.S.Source.faults c.args.source.now) in
     let between = port (g.S.Source.left c.reading.source) (g.S.Source.faults c.reading.source) in
     let now = port (g.S.Source.left c.read.new.self) (g.S.Source.faults c.read.new.self) in
@@ -53,9 +53,9 @@ returns-then-count-eq0-clause-ok g c =
 
 pub returns-then-count-eq0-clause-err : goal.returns-then-count-eq0-clause-err
 returns-then-count-eq0-clause-err g c =
-    let start = world c.args.solver.now (g.A.Alarm.raises c.args.alarm.now) (g.K.Sink.written c.args.sink.now) (g.K.Sink.faults c.args.sink.now) in
-    let a = world c.reading.solver (g.A.Alarm.raises c.reading.alarm) (g.K.Sink.written c.reading.sink) (g.K.Sink.faults c.reading.sink) in
-    let b = world c.take_end.new.solver (g.A.Alarm.raises c.take_end.new.alarm) (g.K.Sink.written c.take_end.new.sink) (g.K.Sink.faults c.take_end.new.sink) in
+    let start = world c.args.shares c.args.solver.now (g.A.Alarm.raises c.args.alarm.now) (g.K.Sink.written c.args.sink.now) (g.K.Sink.faults c.args.sink.now) in
+    let a = world c.args.shares c.reading.solver (g.A.Alarm.raises c.reading.alarm) (g.K.Sink.written c.reading.sink) (g.K.Sink.faults c.reading.sink) in
+    let b = world c.args.shares c.take_end.new.solver (g.A.Alarm.raises c.take_end.new.alarm) (g.K.Sink.written c.take_end.new.sink) (g.K.Sink.faults c.take_end.new.sink) in
     let before = port (g.S.Source.left c.args.source.now) (g.S.Source.faults c.args.source.now) in
     let between = port (g.S.Source.left c.reading.source) (g.S.Source.faults c.reading.source) in
     let now = port (g.S.Source.left c.read.new.self) (g.S.Source.faults c.read.new.self) in
@@ -69,9 +69,9 @@ take_piece-requires-clause-carried g c κs within = (c.args.limits.input, c.read
 pub returns-in_err-take_piece-clause-err : goal.returns-in_err-take_piece-clause-err
 returns-in_err-take_piece-clause-err g c =
     let p = err_from_is_err_and c.from_residual-in_err-take_piece.result c.from_residual-in_err-take_piece.ensures.1 in
-    let start = world c.args.solver.now (g.A.Alarm.raises c.args.alarm.now) (g.K.Sink.written c.args.sink.now) (g.K.Sink.faults c.args.sink.now) in
-    let a = world c.reading.solver (g.A.Alarm.raises c.reading.alarm) (g.K.Sink.written c.reading.sink) (g.K.Sink.faults c.reading.sink) in
-    let b = world c.take_piece.new.solver (g.A.Alarm.raises c.take_piece.new.alarm) (g.K.Sink.written c.take_piece.new.sink) (g.K.Sink.faults c.take_piece.new.sink) in
+    let start = world c.args.shares c.args.solver.now (g.A.Alarm.raises c.args.alarm.now) (g.K.Sink.written c.args.sink.now) (g.K.Sink.faults c.args.sink.now) in
+    let a = world c.args.shares c.reading.solver (g.A.Alarm.raises c.reading.alarm) (g.K.Sink.written c.reading.sink) (g.K.Sink.faults c.reading.sink) in
+    let b = world c.args.shares c.take_piece.new.solver (g.A.Alarm.raises c.take_piece.new.alarm) (g.K.Sink.written c.take_piece.new.sink) (g.K.Sink.faults c.take_piece.new.sink) in
     let before = port (g.S.Source.left c.args.source.now) (g.S.Source.faults c.args.source.now) in
     let between = port (g.S.Source.left c.reading.source) (g.S.Source.faults c.reading.source) in
     let now = port (g.S.Source.left c.read.new.self) (g.S.Source.faults c.read.new.self) in
@@ -80,10 +80,10 @@ returns-in_err-take_piece-clause-err g c =
 
 pub returns-then-ended-clause-ok : goal.returns-then-ended-clause-ok
 returns-then-ended-clause-ok g c =
-    let start = world c.args.solver.now (g.A.Alarm.raises c.args.alarm.now) (g.K.Sink.written c.args.sink.now) (g.K.Sink.faults c.args.sink.now) in
-    let a = world c.reading.solver (g.A.Alarm.raises c.reading.alarm) (g.K.Sink.written c.reading.sink) (g.K.Sink.faults c.reading.sink) in
-    let b = world c.take_piece.new.solver (g.A.Alarm.raises c.take_piece.new.alarm) (g.K.Sink.written c.take_piece.new.sink) (g.K.Sink.faults c.take_piece.new.sink) in
-    let d = world c.close.new.solver (g.A.Alarm.raises c.close.new.alarm) (g.K.Sink.written c.close.new.sink) (g.K.Sink.faults c.close.new.sink) in
+    let start = world c.args.shares c.args.solver.now (g.A.Alarm.raises c.args.alarm.now) (g.K.Sink.written c.args.sink.now) (g.K.Sink.faults c.args.sink.now) in
+    let a = world c.args.shares c.reading.solver (g.A.Alarm.raises c.reading.alarm) (g.K.Sink.written c.reading.sink) (g.K.Sink.faults c.reading.sink) in
+    let b = world c.args.shares c.take_piece.new.solver (g.A.Alarm.raises c.take_piece.new.alarm) (g.K.Sink.written c.take_piece.new.sink) (g.K.Sink.faults c.take_piece.new.sink) in
+    let d = world c.args.shares c.close.new.solver (g.A.Alarm.raises c.close.new.alarm) (g.K.Sink.written c.close.new.sink) (g.K.Sink.faults c.close.new.sink) in
     let before = port (g.S.Source.left c.args.source.now) (g.S.Source.faults c.args.source.now) in
     let between = port (g.S.Source.left c.reading.source) (g.S.Source.faults c.reading.source) in
     let now = port (g.S.Source.left c.read.new.self) (g.S.Source.faults c.read.new.self) in
@@ -92,10 +92,10 @@ returns-then-ended-clause-ok g c =
 
 pub returns-then-ended-clause-err : goal.returns-then-ended-clause-err
 returns-then-ended-clause-err g c =
-    let start = world c.args.solver.now (g.A.Alarm.raises c.args.alarm.now) (g.K.Sink.written c.args.sink.now) (g.K.Sink.faults c.args.sink.now) in
-    let a = world c.reading.solver (g.A.Alarm.raises c.reading.alarm) (g.K.Sink.written c.reading.sink) (g.K.Sink.faults c.reading.sink) in
-    let b = world c.take_piece.new.solver (g.A.Alarm.raises c.take_piece.new.alarm) (g.K.Sink.written c.take_piece.new.sink) (g.K.Sink.faults c.take_piece.new.sink) in
-    let d = world c.close.new.solver (g.A.Alarm.raises c.close.new.alarm) (g.K.Sink.written c.close.new.sink) (g.K.Sink.faults c.close.new.sink) in
+    let start = world c.args.shares c.args.solver.now (g.A.Alarm.raises c.args.alarm.now) (g.K.Sink.written c.args.sink.now) (g.K.Sink.faults c.args.sink.now) in
+    let a = world c.args.shares c.reading.solver (g.A.Alarm.raises c.reading.alarm) (g.K.Sink.written c.reading.sink) (g.K.Sink.faults c.reading.sink) in
+    let b = world c.args.shares c.take_piece.new.solver (g.A.Alarm.raises c.take_piece.new.alarm) (g.K.Sink.written c.take_piece.new.sink) (g.K.Sink.faults c.take_piece.new.sink) in
+    let d = world c.args.shares c.close.new.solver (g.A.Alarm.raises c.close.new.alarm) (g.K.Sink.written c.close.new.sink) (g.K.Sink.faults c.close.new.sink) in
     let before = port (g.S.Source.left c.args.source.now) (g.S.Source.faults c.args.source.now) in
     let between = port (g.S.Source.left c.reading.source) (g.S.Source.faults c.reading.source) in
     let now = port (g.S.Source.left c.read.new.self) (g.S.Source.faults c.read.new.self) in
@@ -109,17 +109,17 @@ overflow_add-taken g c =
 
 pub reading-preserved : goal.reading-preserved
 reading-preserved g c =
-    let start = world c.args.solver.now (g.A.Alarm.raises c.args.alarm.now) (g.K.Sink.written c.args.sink.now) (g.K.Sink.faults c.args.sink.now) in
-    let a = world c.reading.solver (g.A.Alarm.raises c.reading.alarm) (g.K.Sink.written c.reading.sink) (g.K.Sink.faults c.reading.sink) in
-    let b = world c.take_piece.new.solver (g.A.Alarm.raises c.take_piece.new.alarm) (g.K.Sink.written c.take_piece.new.sink) (g.K.Sink.faults c.take_piece.new.sink) in
+    let start = world c.args.shares c.args.solver.now (g.A.Alarm.raises c.args.alarm.now) (g.K.Sink.written c.args.sink.now) (g.K.Sink.faults c.args.sink.now) in
+    let a = world c.args.shares c.reading.solver (g.A.Alarm.raises c.reading.alarm) (g.K.Sink.written c.reading.sink) (g.K.Sink.faults c.reading.sink) in
+    let b = world c.args.shares c.take_piece.new.solver (g.A.Alarm.raises c.take_piece.new.alarm) (g.K.Sink.written c.take_piece.new.sink) (g.K.Sink.faults c.take_piece.new.sink) in
     reads_more c.args.limits.input c.reading.taken c.in_ok-count.count c.reading.reader c.take_piece.new.reader (g.S.Source.left c.args.source.now) (g.S.Source.left c.reading.source) (g.S.Source.left c.read.new.self)
     (g.S.Source.faults c.args.source.now) (g.S.Source.faults c.reading.source) (g.S.Source.faults c.read.new.self) start a b (take c.in_ok-count.count c.read.new.into) c.ended.result
     c.reading.invariant c.in_ok-count.ensures.bytes.0 (sym (length-take-le c.in_ok-count.count c.read.new.into (let b = c.in_ok-count.ensures.bound in b.0))) c.in_ok-count.ensures.cause.kept c.in_ok-take_piece.ensures.ok c.if-ended.false (c.ended.ensures.told (limits_of c.args.limits.input))
 
 pub returns-then-count-eq0-clause-little : goal.returns-then-count-eq0-clause-little
 returns-then-count-eq0-clause-little g c =
-    let start = world c.args.solver.now (g.A.Alarm.raises c.args.alarm.now) (g.K.Sink.written c.args.sink.now) (g.K.Sink.faults c.args.sink.now) in
-    let a = world c.reading.solver (g.A.Alarm.raises c.reading.alarm) (g.K.Sink.written c.reading.sink) (g.K.Sink.faults c.reading.sink) in
+    let start = world c.args.shares c.args.solver.now (g.A.Alarm.raises c.args.alarm.now) (g.K.Sink.written c.args.sink.now) (g.K.Sink.faults c.args.sink.now) in
+    let a = world c.args.shares c.reading.solver (g.A.Alarm.raises c.reading.alarm) (g.K.Sink.written c.reading.sink) (g.K.Sink.faults c.reading.sink) in
     let before = port (g.S.Source.left c.args.source.now) (g.S.Source.faults c.args.source.now) in
     let between = port (g.S.Source.left c.reading.source) (g.S.Source.faults c.reading.source) in
     let now = port (g.S.Source.left c.read.new.self) (g.S.Source.faults c.read.new.self) in
@@ -128,8 +128,8 @@ returns-then-count-eq0-clause-little g c =
 
 pub returns-in_err-take_piece-clause-little : goal.returns-in_err-take_piece-clause-little
 returns-in_err-take_piece-clause-little g c =
-    let start = world c.args.solver.now (g.A.Alarm.raises c.args.alarm.now) (g.K.Sink.written c.args.sink.now) (g.K.Sink.faults c.args.sink.now) in
-    let a = world c.reading.solver (g.A.Alarm.raises c.reading.alarm) (g.K.Sink.written c.reading.sink) (g.K.Sink.faults c.reading.sink) in
+    let start = world c.args.shares c.args.solver.now (g.A.Alarm.raises c.args.alarm.now) (g.K.Sink.written c.args.sink.now) (g.K.Sink.faults c.args.sink.now) in
+    let a = world c.args.shares c.reading.solver (g.A.Alarm.raises c.reading.alarm) (g.K.Sink.written c.reading.sink) (g.K.Sink.faults c.reading.sink) in
     let before = port (g.S.Source.left c.args.source.now) (g.S.Source.faults c.args.source.now) in
     let between = port (g.S.Source.left c.reading.source) (g.S.Source.faults c.reading.source) in
     let now = port (g.S.Source.left c.read.new.self) (g.S.Source.faults c.read.new.self) in
@@ -138,8 +138,8 @@ returns-in_err-take_piece-clause-little g c =
 
 pub returns-then-ended-clause-little : goal.returns-then-ended-clause-little
 returns-then-ended-clause-little g c =
-    let start = world c.args.solver.now (g.A.Alarm.raises c.args.alarm.now) (g.K.Sink.written c.args.sink.now) (g.K.Sink.faults c.args.sink.now) in
-    let a = world c.reading.solver (g.A.Alarm.raises c.reading.alarm) (g.K.Sink.written c.reading.sink) (g.K.Sink.faults c.reading.sink) in
+    let start = world c.args.shares c.args.solver.now (g.A.Alarm.raises c.args.alarm.now) (g.K.Sink.written c.args.sink.now) (g.K.Sink.faults c.args.sink.now) in
+    let a = world c.args.shares c.reading.solver (g.A.Alarm.raises c.reading.alarm) (g.K.Sink.written c.reading.sink) (g.K.Sink.faults c.reading.sink) in
     let before = port (g.S.Source.left c.args.source.now) (g.S.Source.faults c.args.source.now) in
     let between = port (g.S.Source.left c.reading.source) (g.S.Source.faults c.reading.source) in
     let now = port (g.S.Source.left c.read.new.self) (g.S.Source.faults c.read.new.self) in

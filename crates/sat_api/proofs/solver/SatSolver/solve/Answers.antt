@@ -6,7 +6,7 @@ use Rattle.sat_api.specs.State.{SolverState}
 use Rattle.sat_api.proofs.solver.SatSolver.solve.Goals as goal
 
 pub ask-requires-clause-known : goal.ask-requires-clause-known
-ask-requires-clause-known g c =
-    subst (λ (s : SolverState). names_known s.problem.vars (Clause c.args.assumptions.now) ≡ true) c.self.view_is
+ask-requires-clause-known g c lifetimes within =
+    subst (λ (n : ℕ). names_known n (Clause c.args.assumptions.now) ≡ true) (ap (λ (s : SolverState). s.problem.vars) c.self.view_is)
     (known_where_none c.self.inside.formula.problem.vars (numbers_of (Clause c.args.assumptions.now))
     (ap (λ (n : ℕ). first_unknown n (numbers_of (Clause c.args.assumptions.now))) (sym c.vars.ensures.value) ∙ (sym c.unknown_lit.ensures ∙ c.in_default.is)))
