@@ -15,6 +15,15 @@ use texts::{CIRCUIT, ONE_MODEL, TWO_QUESTIONS, TWO_UNITS};
 /// Room for all that a run of the tour writes.
 const WIDE: usize = 1000;
 
+/// Words for one thread and for four.
+const THREADS: [&[&str]; 2] = [&["--threads=1"], &["--threads=4"]];
+
+/// A conflict limit that is enough for two variables, for one thread and for four.
+const ENOUGH: [&[&str]; 2] = [&["--maxconfl=109"], &["--threads", "4", "--maxconfl=109"]];
+
+/// A limit of 4 bytes, for one thread and for four.
+const FOUR_BYTES: [&[&str]; 2] = [&["--max-input", "4"], &["--max-input=4", "--threads=4"]];
+
 fn main(rt: HostRuntime) -> Result<(), TourError> {
     println!(rt; "# Texts with one right output")?;
     for text in texts::SURE {
@@ -28,16 +37,25 @@ fn main(rt: HostRuntime) -> Result<(), TourError> {
     for text in texts::REFUSED {
         show(&rt, &[], text, Models::Written)?;
     }
-    println!(rt; "# A conflict limit that is enough")?;
-    show(&rt, &["--maxconfl=109"], texts::NO_MODEL, Models::Written)?;
-    println!(rt; "# At most 4 bytes of input, and as many as there are")?;
-    show(&rt, &["--max-input", "4"], TWO_UNITS, Models::Written)?;
-    let words = ["--maxconfl", "109", "--max-input=8"];
-    show(&rt, &words, TWO_UNITS, Models::Written)?;
+    show_limits(&rt)?;
     show_interrupts(&rt)?;
     show_fronts(&rt)?;
     show_failed_reads(&rt)?;
     show_failed_writes(&rt)
+}
+
+/// Shows limits on conflicts and on input, for one thread and for four.
+fn show_limits<R: Print + AllocGlobal + Threads + Sync>(rt: &R) -> Result<(), TourError> {
+    println!(rt; "# A conflict limit that is enough, for 1 thread and for 4")?;
+    for words in ENOUGH {
+        show(rt, words, texts::NO_MODEL, Models::Written)?;
+    }
+    println!(rt; "# At most 4 bytes of input, for 1 thread and for 4, and as many as there are")?;
+    for words in FOUR_BYTES {
+        show(rt, words, TWO_UNITS, Models::Written)?;
+    }
+    let words = ["--maxconfl", "109", "--max-input=8"];
+    show(rt, &words, TWO_UNITS, Models::Written)
 }
 
 /// How a model is shown.
@@ -120,7 +138,7 @@ fn show_end<R: Print>(rt: &R, length: usize, outcome: &Outcome) -> Result<(), To
 fn show_failed_reads<R: Print + AllocGlobal + Threads + Sync>(rt: &R) -> Result<(), TourError> {
     println!(rt; "# Pieces of 7 bytes, and one read that fails")?;
     for failing in 0..16 {
-        let outcome = run_on_pieces(rt, CIRCUIT.as_bytes(), 7, failing)?;
+        let outcome = run_on_pieces(rt, &[], CIRCUIT.as_bytes(), 7, failing)?;
         let blocks = outcome
             .text()
             .lines()
@@ -128,9 +146,11 @@ fn show_failed_reads<R: Print + AllocGlobal + Threads + Sync>(rt: &R) -> Result<
             .count();
         println!(rt; "  {failing}: {blocks} answered, status {}", outcome.status)?;
     }
-    println!(rt; "# Pieces of 23 bytes, and the second read fails")?;
-    let outcome = run_on_pieces(rt, ONE_MODEL.as_bytes(), 23, 1)?;
-    println!(rt; "  {:?}, status {}", outcome.text(), outcome.status)?;
+    println!(rt; "# Pieces of 23 bytes, and the second read fails, for 1 thread and for 4")?;
+    for words in THREADS {
+        let outcome = run_on_pieces(rt, words, ONE_MODEL.as_bytes(), 23, 1)?;
+        println!(rt; "  {:?}, status {}", outcome.text(), outcome.status)?;
+    }
     Ok(())
 }
 
@@ -141,8 +161,10 @@ fn show_failed_writes<R: Print + AllocGlobal + Threads + Sync>(rt: &R) -> Result
         let outcome = run_on_text(rt, &[], TWO_QUESTIONS.as_bytes(), room)?;
         println!(rt; "  {room}: {:?}, status {}", outcome.text(), outcome.status)?;
     }
-    println!(rt; "# A sink whose first write fails")?;
-    let outcome = run_with_room(rt, texts::CONTRADICTION.as_bytes(), WIDE, &[0])?;
-    println!(rt; "  {:?}, status {}", outcome.text(), outcome.status)?;
+    println!(rt; "# A sink whose first write fails, for 1 thread and for 4")?;
+    for words in THREADS {
+        let outcome = run_with_room(rt, words, texts::CONTRADICTION.as_bytes(), WIDE, &[0])?;
+        println!(rt; "  {:?}, status {}", outcome.text(), outcome.status)?;
+    }
     Ok(())
 }

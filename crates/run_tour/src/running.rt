@@ -61,17 +61,19 @@ pub fn run_beside_alarm<R: AllocGlobal + Threads + Sync>(
 /// A run on a text where the listed writes fail.
 pub fn run_with_room<R: AllocGlobal + Threads + Sync>(
     rt: &R,
+    words: &[&str],
     text: &[u8],
     room: usize,
     failing: &[u64],
 ) -> Result<Outcome, NoMemory> {
     let mut source = PlainSource::new(text);
-    run_into(rt, &[], &mut source, &mut Silent::new(), room, failing)
+    run_into(rt, words, &mut source, &mut Silent::new(), room, failing)
 }
 
 /// A run on a text in pieces, where one read fails.
 pub fn run_on_pieces<R: AllocGlobal + Threads + Sync>(
     rt: &R,
+    words: &[&str],
     text: &[u8],
     piece: usize,
     failing: u64,
@@ -80,7 +82,7 @@ pub fn run_on_pieces<R: AllocGlobal + Threads + Sync>(
 {
     run_into(
         rt,
-        &[],
+        words,
         &mut BytesSource::new(text, piece, &[failing]),
         &mut Silent::new(),
         1000,
