@@ -3,12 +3,12 @@
 
 Run it from anywhere, with Python 3:
 
-    tools/fuzz.py [TEXTS]
+    tools/fuzz.py [TEXTS [THREADS]]
 
 Each of the TEXTS (10000 where no number is given) is made from its own fixed seed: clauses, parities,
 questions under assumptions and new variables, at random, over at most nine variables. So variables
 are fixed, replaced and eliminated at a question, and named again by what follows. Each text goes to
-./torimbava, which is built before the first. A model must satisfy all that was read up to its
+./torimbava with so many threads (1 where no number is given), which is built before the first. A model must satisfy all that was read up to its
 question, and the assumptions; failed assumptions must stand among those of the question, at rising
 places, and contradict what was read; and each question must have one answer. The first text with a
 wrong answer is printed, and ends it with status 1. The proofs and the tests need none of this.
@@ -146,12 +146,14 @@ def wrong_text(steps, output, status):
 
 def main():
     texts = int(sys.argv[1]) if len(sys.argv) > 1 else TEXTS
+    threads = sys.argv[2] if len(sys.argv) > 2 else "1"
     build()
     questions = 0
     for instance in range(texts):
         steps = random_steps(instance)
         text = text_of(steps)
-        done = subprocess.run([str(PROGRAM)], input=text, capture_output=True, text=True)
+        command = [str(PROGRAM), "--threads", threads]
+        done = subprocess.run(command, input=text, capture_output=True, text=True)
         wrong = wrong_text(steps, done.stdout, done.returncode)
         if wrong:
             sys.exit(f"fuzz: text {instance}: {wrong}\n{text}answered:\n{done.stdout}")
