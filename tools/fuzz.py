@@ -8,10 +8,11 @@ Run it from anywhere, with Python 3:
 Each of the TEXTS (10000 where no number is given) is made from its own fixed seed: clauses, parities,
 questions under assumptions and new variables, at random, over at most nine variables. So variables
 are fixed, replaced and eliminated at a question, and named again by what follows. Each text goes to
-./torimbava with so many threads (1 where no number is given), which is built before the first. A model must satisfy all that was read up to its
-question, and the assumptions; failed assumptions must stand among those of the question, at rising
-places, and contradict what was read; and each question must have one answer. The first text with a
-wrong answer is printed, and ends it with status 1. The proofs and the tests need none of this.
+./torimbava with so many threads (1 where no number is given), which is built before the first. A
+model must satisfy all that was read up to its question, and the assumptions; failed assumptions must
+stand among those of the question, at rising places, and contradict what was read; and each question
+must have one answer. The first text with a wrong answer is printed, and ends it with status 1. The
+proofs and the tests need none of this.
 """
 
 import itertools
