@@ -136,7 +136,7 @@ fn play_all(places: &mut [Option<Candidate>], count: usize)
     }
 }
 
-/// Plays the matches anew that a place leads to.
+/// Plays the matches anew that a place leads to, up to the first one whose winner stays.
 fn play_up(places: &mut [Option<Candidate>], count: usize, from: usize)
     requires sized { length places.old ≡ count + count }
     requires from { 1 ≤ from }
@@ -148,7 +148,11 @@ fn play_up(places: &mut [Option<Candidate>], count: usize, from: usize)
     let mut place = from;
     'up: while place > 1 {
         place /= 2;
-        places[place] = winner(places[2 * place], places[2 * place + 1]);
+        let won = winner(places[2 * place], places[2 * place + 1]);
+        if places[place] == won {
+            return;
+        }
+        places[place] = won;
     }
 }
 

@@ -1,17 +1,17 @@
-ghost use Rattle.std.specs.Prelude.{◌≡◌, ◌+◌, ◌-◌, ◌≤◌, ◌^◌, Some, length, sum_by, true, false, IsTrue, IfOk, OnOk, OnErr};
+ghost use Rattle.std.specs.Prelude.{◌≡◌, ◌+◌, ◌-◌, ◌≤◌, ◌^◌, ◌∷◌, ◌++◌, [], Some, length, sum_by, true, false, IsTrue, IfOk, OnOk, OnErr};
 ghost use Rattle.std.specs.List.{list_any};
 ghost use Rattle.sat_lits.specs.Truth.{clauses_value};
 ghost use Rattle.sat_lits.specs.Meaning.{IsModel};
 ghost use Rattle.rebuild_stack.specs.Entries.{named, is_block_of};
 ghost use Rattle.rebuild_stack.specs.Roots.{root};
 ghost use Rattle.rebuild_stack.specs.declared.entry.Entry.TheVariants.{Fix, Equal};
-ghost use Rattle.clause_store.specs.Store.{IsKept, contents, hard_of, without};
+ghost use Rattle.clause_store.specs.Store.{IsKept, contents, hard_of, held_as, without};
 ghost use Rattle.indexed_store.specs.Occurrences.{clauses_at, occurrences};
 ghost use Rattle.var_maps.specs.Maps.{plain, retired};
 ghost use Rattle.state_laws.specs.State.{is_active, outer_count, problem_of};
 ghost use Rattle.state_laws.specs.Conditions.{IsContradicted, EntryFollows, Pushable, Takable, Learnable};
 ghost use Rattle.state_laws.specs.Moves.{put_into, taken, extended, learning, grown};
-ghost use Rattle.state_laws.specs.Held.{in_value};
+ghost use Rattle.state_laws.specs.Held.{in_value, own_clause};
 ghost use Rattle.state_laws.specs.Kernel.{Standing, no_kernel, state_of, plain_kernel, Learns, Keeps, Longer, IsLearnedId, IsImplied};
 ghost use Rattle.state_laws.specs.RootTableLaws.{entry_of};
 ghost use Rattle.removed_vars.specs.Removed.{last_lit, fixed_value};
@@ -28,7 +28,7 @@ use rebuild_stack::{Entry, RebuildStack, Root};
 use removed_vars::{
     RemovedVars, Status, add_all, add_hard, collect, drop_all, in_lits, own_form, var_of,
 };
-use sat_lits::{ClauseId, Inner, Item, List, Lit, NoMemory, Own, OwnLit, Shared, Var};
+use sat_lits::{ClauseId, InLit, Inner, Item, List, Lit, NoMemory, Own, OwnLit, Shared, Var};
 use state_laws::Definition;
 use std::alloc::Global;
 use std::marker::Model;
@@ -281,6 +281,21 @@ impl PrivateState {
     {
         let stored = in_lits(self.alloc, &self.maps, lits)?;
         let id = self.store.add(stored.as_slice(), true)?;
+        Ok(id)
+    }
+
+    /// Adds a learned clause as it is to be stored, and tells its id: `add_learned` without a way
+    /// through own numbers, so that the store alone takes memory. The only error is want of memory,
+    /// and nothing changes then.
+    pub fn learn(&mut self, lits: &[InLit]) -> Result<ClauseId, NoMemory>
+        requires { Learnable (state_of self.old) (own_clause self.old.maps lits.now) }
+        ensures ok { OnOk result (state_of self.new ≡ learning (own_clause self.old.maps lits.now) (state_of self.old)) }
+        ensures held { IfOk result (λ id. self.new.store.held ≡ self.old.store.held ++ held_as id.0 true lits.now ∷ []) }
+        ensures fresh { IfOk result (λ id. self.old.store.given ≤ id.0) }
+        ensures same { self.new ≡ record self.old { store = self.new.store } }
+        ensures err { OnErr result (self.new ≡ self.old) }
+    {
+        let id = self.store.add(lits, true)?;
         Ok(id)
     }
 

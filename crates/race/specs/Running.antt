@@ -72,6 +72,19 @@ IsFound (ending.Late verdict) = Unit {0}
 IsFound ending.Spent = ⊥
 IsFound ending.Memory = ⊥
 
+-- a run ended with a verdict that came behind another outcome
+abbrev pub IsLate : Ending → Type 0
+IsLate ending.Over = ⊥
+IsLate (ending.Late verdict) = Unit {0}
+IsLate ending.Spent = ⊥
+IsLate ending.Memory = ⊥
+
+pub late_is_found : (e : Ending) → IsLate e → IsFound e
+late_is_found ending.Over late = absurd late
+late_is_found (ending.Late verdict) late = tt
+late_is_found ending.Spent late = absurd late
+late_is_found ending.Memory late = absurd late
+
 -- how the run of one solver ended is so
 abbrev pub RunEnded : Option ℕ → Parts → View → Ending → Type 0
 RunEnded limit s v e = HasEnded v.question v (IsSpent limit v.question.formula.problem s.conflicts) e

@@ -1,5 +1,5 @@
 ghost use Rattle.std.specs.Prelude.{◌≡◌, ◌⊎◌};
-ghost use Rattle.race.specs.Running.{IsFound};
+ghost use Rattle.race.specs.Running.{IsFound, IsLate};
 
 use sat_lits::Verdict;
 
@@ -24,6 +24,7 @@ impl Ending {
         ensures one { (result ≡ self) ⊎ (result ≡ other) }
         ensures spent { result ≡ Ending.Spent → (self ≡ Ending.Spent) × (other ≡ Ending.Spent) }
         ensures found { IsFound self ⊎ IsFound other → IsFound result }
+        ensures late { IsLate self ⊎ IsLate other → IsLate result }
     {
         match (self, other) {
             (Ending::Late(verdict), _) | (_, Ending::Late(verdict)) => Ending::Late(verdict),

@@ -3,8 +3,8 @@ ghost use Rattle.sat_ports.specs.Causes.{Rose};
 ghost use Rattle.share_store.specs.Log.{StartsWith};
 ghost use Rattle.one_solver.specs.Parts.{Parts};
 ghost use Rattle.race.specs.Homes.{EachPlace, IsEntrant, IsHome};
-ghost use Rattle.race.specs.Running.{IsSpent, IsAskedOf, IsSeated, HasEnded, RunEnded, StaysFirst, KeepsOther};
-ghost use Rattle.race.specs.Seating.{IsLeading, IsSeatOf, IsNewAt};
+ghost use Rattle.race.specs.Running.{IsSpent, IsAskedOf, IsSeated, HasEnded, RunEnded, IsFound, IsLate, StaysFirst, KeepsOther};
+ghost use Rattle.race.specs.Seating.{IsLeading, IsSeatOf, IsNewAt, IsDone};
 
 use crate::ending::Ending;
 use crate::home::{absorb_all, bring_home, come_home};
@@ -95,11 +95,7 @@ fn run_seated<'a, 'b, R: Threads + Sync, A: Alarm + Send, G: Gate + Sync>(
     ensures later { A.raises alarm.old ≤ A.raises alarm.new }
 {
     let solver = mem::replace(&mut solvers[0], OneSolver::new(alloc, 0));
-    let Led {
-        solver,
-        mut pass,
-        ending,
-    } = run_led(
+    let led = run_led(
         rt,
         task,
         exchange,
@@ -108,12 +104,7 @@ fn run_seated<'a, 'b, R: Threads + Sync, A: Alarm + Send, G: Gate + Sync>(
         others.as_mut_slice(),
         alarm,
     );
-    let others_ended = bring_home(task, exchange, &mut pass, solvers, others);
-    let ended = come_home(task.formula, solver, ending, &mut solvers[0]);
-    Gathered {
-        pass,
-        ending: ended.with(others_ended),
-    }
+    gather(task, exchange, led, solvers, others)
 }
 
 /// The first solver after its run, with its pass.
@@ -121,6 +112,48 @@ struct Led {
     solver: OneSolver,
     pass: Pass,
     ending: Ending,
+}
+
+/// Brings all solvers home after their runs, and joins all passes into the first one.
+fn gather<G>(
+    task: &Task<G>,
+    exchange: &Exchange,
+    led: Led,
+    solvers: &mut [OneSolver],
+    others: Vec<Runner<Silent>>,
+) -> Gathered
+    requires formula { led.pass.view.question.formula ≡ task.now.formula.now }
+    requires leading { IsLeading led.pass.view.question exchange.now led.pass }
+    requires first_seated { IsSeated task.now.limit led.solver led.pass.view }
+    requires first_ended { RunEnded task.now.limit led.solver led.pass.view led.ending }
+    requires first_number { led.solver.number ≡ 0 }
+    requires count { vec_len others + 1 ≡ length solvers.old }
+    requires homes { EachPlace (IsHome task.now.limit task.now.formula.now.problem led.pass.view.seen) solvers.old }
+    requires done { (k : ℕ) (d : _) → k < vec_len others → IsDone task.now.limit led.pass.view.question exchange.now k (slice_index_or others.items k d).solver
+        (slice_index_or others.items k d).watch.pass (slice_index_or others.items k d).ending }
+    ensures leading { IsLeading led.pass.view.question exchange.now result.pass }
+    ensures alarmed { result.pass.view.alarmed ≡ led.pass.view.alarmed }
+    ensures seen { StartsWith result.pass.view.seen led.pass.view.seen }
+    ensures splits { result.pass.view.splits ≡ led.pass.view.splits }
+    ensures joins { result.pass.view.joins + 1 ≡ led.pass.view.joins + length solvers.old }
+    ensures homes { EachPlace (IsHome task.now.limit task.now.formula.now.problem result.pass.view.seen) solvers.new }
+    ensures ended { HasEnded led.pass.view.question result.pass.view (All (λ s. IsSpent task.now.limit task.now.formula.now.problem s.conflicts) solvers.new) result.ending }
+    ensures found_first { IsFound led.ending → IsFound result.ending }
+    ensures found_others { (k : ℕ) (d : _) → k < vec_len others.entry → IsFound (slice_index_or others.entry.items k d).ending → IsFound result.ending }
+    ensures late_first { IsLate led.ending → IsLate result.ending }
+    ensures late_others { (k : ℕ) (d : _) → k < vec_len others.entry → IsLate (slice_index_or others.entry.items k d).ending → IsLate result.ending }
+{
+    let Led {
+        solver,
+        mut pass,
+        ending,
+    } = led;
+    let others_ended = bring_home(task, exchange, &mut pass, solvers, others);
+    let ended = come_home(task.formula, solver, ending, &mut solvers[0]);
+    Gathered {
+        pass,
+        ending: ended.with(others_ended),
+    }
 }
 
 /// Runs all solvers side by side, the first one under the alarm.

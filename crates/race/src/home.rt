@@ -5,7 +5,7 @@ ghost use Rattle.share_store.specs.Log.{StartsWith};
 ghost use Rattle.one_solver.specs.Parts.{Parts, problem_in};
 ghost use Rattle.one_solver.specs.InStep.{IsInStep};
 ghost use Rattle.race.specs.Homes.{EachPlace, IsFront, IsHome, Absorbs};
-ghost use Rattle.race.specs.Running.{IsSpent, IsSeated, HasEnded, RunEnded, IsFound};
+ghost use Rattle.race.specs.Running.{IsSpent, IsSeated, HasEnded, RunEnded, IsFound, IsLate};
 ghost use Rattle.race.specs.Seating.{IsLeading, IsDone, ComesHome, JoinedOne};
 ghost use Rattle.race.specs.Watching.{KnowsOutcome};
 
@@ -66,6 +66,7 @@ pub(crate) fn bring_home<G>(
     ensures ended { HasEnded first.old.view.question first.new.view ((k : ℕ) (d : Parts) → 0 < k → k < length solvers.old
         → IsSpent task.now.limit task.now.formula.now.problem (slice_index_or solvers.new k d).conflicts) result }
     ensures found { (k : ℕ) (d : _) → k < vec_len runners.entry → IsFound (slice_index_or runners.entry.items k d).ending → IsFound result }
+    ensures late { (k : ℕ) (d : _) → k < vec_len runners.entry → IsLate (slice_index_or runners.entry.items k d).ending → IsLate result }
 {
     let mut ended = Ending::Spent;
     'homes: while let Some(runner) = runners.pop() {
@@ -95,6 +96,7 @@ fn bring_one<G>(
     ensures home { IsHome task.now.limit task.now.formula.now.problem first.new.view.seen runner.entry.solver.number home.new }
     ensures ended { HasEnded first.old.view.question first.new.view (IsSpent task.now.limit task.now.formula.now.problem home.new.conflicts) result }
     ensures found { IsFound runner.entry.ending → IsFound result }
+    ensures late { IsLate runner.entry.ending → IsLate result }
 {
     let Runner {
         solver,

@@ -1,5 +1,5 @@
 -- Clauses over inner numbers in use, in own literals.
-use Rattle.std.proofs.Common.{◌≡◌, ℕ, Bool, true, false, cond, not, eqb, ◌&&◌, List, [], ◌∷◌, ◌++◌, length, map, filter, get_or, Option, Some, None, refl, sym, ap, ap₂, ◌∙◌, arith, eq-eqb}
+use Rattle.std.proofs.Common.{◌≡◌, ℕ, Bool, true, false, cond, not, eqb, ◌&&◌, List, [], ◌∷◌, length, map, filter, get_or, Option, Some, None, refl, sym, ap, ap₂, ◌∙◌, arith, eq-eqb}
 use Rattle.std.specs.Option.{is_some}
 use Rattle.std.proofs.lemmas.Bool.{and_parts, and_from, eqb-true, false≢true, not-true, not_from_false, false_from_ne_true, both_ways}
 use Rattle.std.proofs.lemmas.Option.{none-some, same_Some}
@@ -16,15 +16,14 @@ use Rattle.sat_lits.specs.declared.literal.InLit.{InLit}
 use Rattle.rebuild_stack.specs.Values.{own_value, each_lit}
 use Rattle.rebuild_stack.specs.Roots.{turned}
 use Rattle.rebuild_stack.specs.PutIn.{is_clean, same_lit}
-use Rattle.clause_store.specs.Store.{Held, held_as, hard_of, learned_of}
+use Rattle.clause_store.specs.Store.{Held, hard_of, learned_of}
 use Rattle.propagate.specs.Reasons.{lit_value}
 use Rattle.analyze.specs.LearnedClauses.{has_each_once, ClauseFollows}
 use Rattle.var_maps.specs.Maps.{Maps, Matched, owner_at, inner_at}
 use Rattle.state_laws.specs.Held.{own_or, own_of, own_clause, own_clauses}
 use Rattle.state_laws.specs.State.{is_active}
 use Rattle.state_laws.specs.Conditions.{Learnable}
-use Rattle.state_laws.specs.Kernel.{Kernel, state_of, Standing, Learns}
-use Rattle.search.specs.Learning.{HasAdded}
+use Rattle.state_laws.specs.Kernel.{Kernel, state_of, Standing}
 use Rattle.search.specs.InUse.{in_use, is_among, lits_among, clauses_among}
 use Rattle.search.proofs.Using.{among_owned, owned_among}
 
@@ -92,17 +91,6 @@ own_of-same m k l a e f =
     number o (Some u) g h = same_number k.var.0 l.var.0 (sym (a.owner_inner k.var.0 u g) ∙ (ap (λ (z : Own). inner_at m z.0) h ∙ o.back))
     number o None g h = absurd (none-some (record { 0 = l.var.0 }) (sym (get_or_past m.inners (length m.inners) None (omega arith)) ∙ (ap (λ (z : Own). inner_at m z.0) h ∙ o.back)))
 
--- and so are two clauses
-pub own_clause-same : (m : Maps) (c d : List InLit) → Matched m → lits_among (in_use m) d ≡ true → own_clause m c ≡ own_clause m d → c ≡ d
-own_clause-same m [] [] a e f = refl
-own_clause-same m [] (l ∷ d) a e f = cc
-own_clause-same m (k ∷ c) [] a e f = cc
-own_clause-same m (k ∷ c) (l ∷ d) a e f =
-    let p : (is_among (in_use m) l.var.0 ≡ true) × (lits_among (in_use m) d ≡ true) = and_parts _ _ e in
-    let g : own_of m k ≡ own_of m l = cc in
-    let h : own_clause m c ≡ own_clause m d = cc in
-    ap₂ (λ (x : InLit) (y : List InLit). x ∷ y) (own_of-same m k l a p.0 g) (own_clause-same m c d a p.1 h)
-
 -- the own variables of numbers in use are active
 own_active : (k : Kernel) (lits : List InLit) → Matched k.maps → lits_among (in_use k.maps) lits ≡ true → list_all (λ l. is_active (state_of k) l.var.0) (own_clause k.maps lits) ≡ true
 own_active k [] a e = refl
@@ -141,12 +129,3 @@ may_learn k lits a e f g = record {
   where
     inner : (ℕ → Bool) → ℕ → Bool
     inner w i = w (own_or (length k.maps.inners) (owner_at k.maps i)).0
-
--- a clause that was learned under its own literals was added
-pub added : (k n : Kernel) (lits : List InLit) (own : List OwnLit) (id : ℕ) → Matched k.maps → lits_among (in_use k.maps) lits ≡ true → own ≡ own_clause k.maps lits → Learns k n own id → n ≡ record k { store = n.store } → HasAdded k n lits id
-added k n lits own id a e f l s =
-    record {
-      same = s;
-      held = l.held ∙ ap (λ (z : List InLit). k.store.held ++ held_as id true z ∷ []) (own_clause-same k.maps l.lits lits a e (l.own ∙ f));
-      fresh = l.fresh;
-    }

@@ -16,9 +16,7 @@ use crate::work::Work;
 use analyze::{Learned, Tally};
 use pick_order::PickOrder;
 use private_state::PrivateState;
-use removed_vars::own_lits;
 use sat_lits::{ClauseId, InLit, Inner, NoMemory};
-use std::alloc::Global;
 use trail::Trail;
 
 impl Work {
@@ -44,7 +42,7 @@ impl Work {
     {
         let learned = self.analyze(state, conflict, tally)?;
         let lits = learned.lits.as_slice();
-        let id = add_clause(self.assumptions.allocator(), state, lits)?;
+        let id = add_clause(state, lits)?;
         self.watches.attach(state.clauses(), id)?;
         self.go_back(learned.back);
         self.trail.assign(lits[0], Some(id));
@@ -95,7 +93,7 @@ impl Work {
 }
 
 /// Adds a learned clause to a state, where it follows from the clauses that are held.
-fn add_clause(alloc: Global, state: &mut PrivateState, lits: &[InLit]) -> Result<ClauseId, NoMemory>
+fn add_clause(state: &mut PrivateState, lits: &[InLit]) -> Result<ClauseId, NoMemory>
     requires active { IsTrue (lits_among (in_use state.old.maps) lits.now) }
     requires once { IsTrue (has_each_once lits.now) }
     requires follows { ClauseFollows state.old.store.held lits.now }
@@ -103,8 +101,9 @@ fn add_clause(alloc: Global, state: &mut PrivateState, lits: &[InLit]) -> Result
     ensures range { IfOk result (λ id. id.0 < 2 ^ 64) }
     ensures err { OnErr result (state.new ≡ state.old) }
 {
-    let own = own_lits(alloc, state.maps(), lits)?;
-    let id = state.add_learned(own.as_slice())?;
+    // That the maps match is known from here on.
+    let _len = state.maps().inner_len();
+    let id = state.learn(lits)?;
     Ok(id)
 }
 

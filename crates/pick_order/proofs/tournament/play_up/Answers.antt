@@ -8,8 +8,8 @@ up-preserved c =
     record {
       from = omega arith;
       within = omega arith;
-      others = played_up c.up.places c.up.place c.args.count c.winner.result (omega arith) (omega arith) c.winner.ensures c.up.invariant.others;
-      same = drop-set-lt c.args.count c.up.places (c.up.place / 2) c.winner.result (omega arith) ∙ c.up.invariant.same;
+      others = played_up c.up.places c.up.place c.args.count c.winner-won.result (omega arith) (omega arith) c.winner-won.ensures c.up.invariant.others;
+      same = drop-set-lt c.args.count c.up.places (c.up.place / 2) c.winner-won.result (omega arith) ∙ c.up.invariant.same;
     }
 
 pub returns-clause-played : goal.returns-clause-played

@@ -9,7 +9,7 @@ use Rattle.share_turn.specs.Views.{IsLegalFor}
 use Rattle.share_turn.specs.declared.view.Question.{Question}
 use Rattle.race.specs.declared.runner.Runner.{Runner}
 use Rattle.race.specs.Homes.{IsHome}
-use Rattle.race.specs.Running.{IsSpent, HasEnded, IsFound}
+use Rattle.race.specs.Running.{IsSpent, HasEnded, IsFound, IsLate}
 use Rattle.race.specs.Seating.{IsDone}
 use Rattle.race.proofs.Homing.{home_grows, at_place}
 use Rattle.race.proofs.Outing.{leads_on, ends_together, popped}
@@ -72,6 +72,15 @@ homes-preserved g c =
           (λ (ne : k ≡ m → ⊥). inl (inv.11 k d (omega (arith, past, ne, len)) b found))
           (cases_eq k m)),
       λ k d below. before k d below ∙ inv.12 k d (omega (arith, below, len)),
+      λ k d past b late.
+          w.late
+          (⊎_elim
+          (λ (same : k ≡ m).
+          let it : get_or all k d ≡ r =
+          ap (λ n. get_or all n d) same ∙ (get_or_default all m d r (omega (arith, same, b, c.args.runners.ok.0)) ∙ (sym (inv.12 m r (omega (arith, len))) ∙ here)) in
+          inr (e.late (subst (λ (u : Runner Silent silent.ghosts). IsLate u.ending) it late)))
+          (λ (ne : k ≡ m → ⊥). inl (inv.13 k d (omega (arith, past, ne, len)) b late))
+          (cases_eq k m)),
     )
 
 pub bring_one-requires-clause-seated : goal.bring_one-requires-clause-seated

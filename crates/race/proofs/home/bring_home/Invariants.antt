@@ -2,7 +2,7 @@ use Rattle.std.proofs.Common.{◌≡◌, ℕ, ◌+◌, ◌<◌, ◌≤◌, lengt
 use Rattle.share_store.specs.Log.{StartsWith}
 use Rattle.one_solver.specs.Parts.{Parts}
 use Rattle.race.specs.Homes.{IsHome}
-use Rattle.race.specs.Running.{IsSpent, HasEnded, IsFound}
+use Rattle.race.specs.Running.{IsSpent, HasEnded, IsFound, IsLate}
 use Rattle.race.specs.Seating.{IsLeading, IsDone}
 use Rattle.race.specs.Watching.{KnowsOutcome}
 use Rattle.race.proofs.home.bring_home.Given as goal
@@ -21,6 +21,7 @@ invariant-homes g l =
     → IsSpent l.task.limit l.task.formula.now.problem (get_or l.solvers k d).conflicts) l.ended
     × ((k : ℕ) (d : _) → vec_len l.runners ≤ k → k < vec_len l.fn.runners → IsFound (get_or l.fn.runners.items k d).ending → IsFound l.ended)
     × ((k : ℕ) (d : _) → k < vec_len l.runners → get_or l.runners.items k d ≡ get_or l.fn.runners.items k d)
+    × ((k : ℕ) (d : _) → vec_len l.runners ≤ k → k < vec_len l.fn.runners → IsLate (get_or l.fn.runners.items k d).ending → IsLate l.ended)
 
 abbrev pub decreases-homes : goal.decreases-homes
 decreases-homes g l = vec_len l.runners
