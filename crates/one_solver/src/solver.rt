@@ -37,6 +37,7 @@ use search::{IntervalAnswer, Search};
 use share_store::Store;
 use std::alloc::Global;
 use std::marker::Model;
+use var_elim::Compared;
 
 /// How many learned clauses of more than two literals are kept after the first interval.
 const KEPT: u64 = 2000;
@@ -58,6 +59,7 @@ pub struct OneSolver {
     book: SyncBook,
     took: u64,
     search: Search,
+    compared: Compared,
     tally: Tally,
     interval: u64,
     assumptions: List<Lit>,
@@ -95,6 +97,7 @@ impl OneSolver {
             book: SyncBook::new(alloc),
             took: 0,
             search: Search::new(alloc, number % 2 == 1),
+            compared: Compared::new(),
             tally: Tally::new(),
             interval: 0,
             assumptions: List::new(alloc),
@@ -146,7 +149,13 @@ impl OneSolver {
         self.interval = 0;
         self.assumptions.clear();
         let kept = List::from_slice(self.alloc, assumptions)?;
-        settle(self.alloc, &mut self.state, assumptions, self.number)?;
+        settle(
+            self.alloc,
+            &mut self.state,
+            &mut self.compared,
+            assumptions,
+            self.number,
+        )?;
         self.assumptions = kept;
         Ok(())
     }
@@ -466,7 +475,7 @@ impl OneSolver {
         ensures same { self.new ≡ record self.old { kernel = self.new.kernel } }
         ensures problem { problem_in self.new ≡ problem_in self.old }
     {
-        tidy(self.alloc, &mut self.state, keep)
+        tidy(self.alloc, &mut self.state, &mut self.compared, keep)
     }
 }
 

@@ -2,6 +2,7 @@
 //! Biere, 2005).
 #![tactic(auto)]
 
+mod compared;
 mod drop;
 mod eliminate;
 mod marks;
@@ -9,5 +10,6 @@ mod subsume;
 #[cfg(test)]
 mod tests;
 
+pub use compared::Compared;
 pub use drop::drop_subsumed;
 pub use eliminate::eliminate_some;
