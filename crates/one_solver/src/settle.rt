@@ -17,7 +17,7 @@ use equiv_replace::replace_equivalent;
 use private_state::PrivateState;
 use sat_lits::{Lit, NoMemory};
 use std::alloc::Global;
-use var_elim::{Compared, eliminate_some};
+use var_elim::{drop_subsumed, eliminate_some};
 
 /// Brings back the variables to which assumptions come, fixes the literals of the clauses of one
 /// literal, drops subsumed clauses once, and then replaces equivalent variables, eliminates others
@@ -27,7 +27,6 @@ use var_elim::{Compared, eliminate_some};
 pub fn settle(
     alloc: Global,
     state: &mut PrivateState,
-    compared: &mut Compared,
     assumptions: &[Lit],
     solver: u32,
 ) -> Result<(), NoMemory>
@@ -42,16 +41,15 @@ pub fn settle(
     ensures done { OnOk result (IsTrue state.new.okay → IsDone state.new assumptions.now solver) }
 {
     free_lits(alloc, state, assumptions)?;
-    fix_units(state, compared)?;
-    compared.drop_subsumed(alloc, state)?;
-    repeat_rounds(alloc, state, compared, assumptions, solver)
+    fix_units(state)?;
+    drop_subsumed(alloc, state)?;
+    repeat_rounds(alloc, state, assumptions, solver)
 }
 
 /// Makes rounds until one finds nothing. After want of memory some may be made.
 fn repeat_rounds(
     alloc: Global,
     state: &mut PrivateState,
-    compared: &mut Compared,
     assumptions: &[Lit],
     solver: u32,
 ) -> Result<(), NoMemory>
@@ -68,7 +66,7 @@ fn repeat_rounds(
     ensures done { OnOk result (IsTrue state.new.okay → IsDone state.new assumptions.now solver) }
 {
     'rounds: while state.okay() {
-        if !make_round(alloc, state, compared, assumptions, solver)? {
+        if !make_round(alloc, state, assumptions, solver)? {
             return Ok(());
         }
     }
@@ -80,7 +78,6 @@ fn repeat_rounds(
 fn make_round(
     alloc: Global,
     state: &mut PrivateState,
-    compared: &mut Compared,
     assumptions: &[Lit],
     solver: u32,
 ) -> Result<bool, NoMemory>
@@ -102,7 +99,7 @@ fn make_round(
     if replaced == 0 && eliminated == 0 {
         return Ok(false);
     }
-    fix_units(state, compared)?;
+    fix_units(state)?;
     Ok(true)
 }
 

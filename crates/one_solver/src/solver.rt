@@ -37,7 +37,6 @@ use search::{IntervalAnswer, Search};
 use share_store::Store;
 use std::alloc::Global;
 use std::marker::Model;
-use var_elim::Compared;
 
 /// How many learned clauses of more than two literals are kept after the first interval.
 const KEPT: u64 = 2000;
@@ -59,7 +58,6 @@ pub struct OneSolver {
     book: SyncBook,
     took: u64,
     search: Search,
-    compared: Compared,
     tally: Tally,
     interval: u64,
     assumptions: List<Lit>,
@@ -97,7 +95,6 @@ impl OneSolver {
             book: SyncBook::new(alloc),
             took: 0,
             search: Search::new(alloc, number % 2 == 1),
-            compared: Compared::new(),
             tally: Tally::new(),
             interval: 0,
             assumptions: List::new(alloc),
@@ -149,13 +146,7 @@ impl OneSolver {
         self.interval = 0;
         self.assumptions.clear();
         let kept = List::from_slice(self.alloc, assumptions)?;
-        settle(
-            self.alloc,
-            &mut self.state,
-            &mut self.compared,
-            assumptions,
-            self.number,
-        )?;
+        settle(self.alloc, &mut self.state, assumptions, self.number)?;
         self.assumptions = kept;
         Ok(())
     }
@@ -475,7 +466,7 @@ impl OneSolver {
         ensures same { self.new ≡ record self.old { kernel = self.new.kernel } }
         ensures problem { problem_in self.new ≡ problem_in self.old }
     {
-        tidy(self.alloc, &mut self.state, &mut self.compared, keep)
+        tidy(self.alloc, &mut self.state, keep)
     }
 }
 

@@ -12,18 +12,12 @@ use clause_store::ClauseStore;
 use private_state::PrivateState;
 use sat_lits::{ClauseId, NoMemory};
 use std::alloc::Global;
-use var_elim::Compared;
 
 /// Fixes the literals of the clauses of one literal, keeps so many learned clauses of more than two
 /// literals, the newest ones, and gives the clauses new ids once, where that changed any. One walk
 /// over the clauses does both; a second one is made only where the state is refuted. After want of
 /// memory some literals may be fixed.
-pub fn tidy(
-    alloc: Global,
-    state: &mut PrivateState,
-    compared: &mut Compared,
-    keep: usize,
-) -> Result<(), NoMemory>
+pub fn tidy(alloc: Global, state: &mut PrivateState, keep: usize) -> Result<(), NoMemory>
     requires basic { IsBasic state.old }
     ensures basic { IsBasic state.new }
     ensures same { TookSame state.old state.new }
@@ -35,7 +29,7 @@ pub fn tidy(
     let is_fixed = fix_each(state, &mut noted)?;
     let ids = long_of(alloc, state.clauses(), noted)?;
     let is_dropped = drop_old(state, &ids, keep);
-    compact_where(state, compared, is_fixed || is_dropped);
+    compact_where(state, is_fixed || is_dropped);
     Ok(())
 }
 
@@ -69,13 +63,12 @@ fn live_of(store: &ClauseStore, ids: Vec<ClauseId>) -> Vec<ClauseId>
 }
 
 /// Gives every clause its id anew, where some changed.
-fn compact_where(state: &mut PrivateState, compared: &mut Compared, has_changed: bool)
+fn compact_where(state: &mut PrivateState, has_changed: bool)
     ensures same { state.new ≡ record state.old { store = state.new.store } }
     ensures clauses { contents state.new.store.held ≡ contents state.old.store.held }
     ensures state { state_of state.new ≡ state_of state.old }
 {
     if has_changed {
-        compared.before_compact(state.clauses());
         state.compact();
     }
 }

@@ -13,7 +13,6 @@ use clause_store::ClauseStore;
 use private_state::PrivateState;
 use removed_vars::own_lit;
 use sat_lits::{ClauseId, InLit, NoMemory};
-use var_elim::Compared;
 
 /// How many literals a clause has, as far as it matters here.
 #[derive(Clone, Copy, Debug, PartialEq, Eq)]
@@ -40,7 +39,7 @@ pub enum Short {
 /// Fixes the literals of the clauses of one literal, hard or learned, until there is none, and
 /// refutes the state where a clause is left without literals. Where a literal was fixed, the clauses
 /// have new ids then. After want of memory some literals may be fixed.
-pub fn fix_units(state: &mut PrivateState, compared: &mut Compared) -> Result<(), NoMemory>
+pub fn fix_units(state: &mut PrivateState) -> Result<(), NoMemory>
     requires basic { IsBasic state.old }
     ensures basic { IsBasic state.new }
     ensures same { TookSame state.old state.new }
@@ -51,7 +50,6 @@ pub fn fix_units(state: &mut PrivateState, compared: &mut Compared) -> Result<()
     ensures left { OnOk result (IsTrue state.new.okay → HasNoUnits state.new) }
 {
     if fix_each(state, &mut None)? {
-        compared.before_compact(state.clauses());
         state.compact();
     }
     Ok(())

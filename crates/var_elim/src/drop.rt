@@ -80,11 +80,7 @@ fn drop_all_by(alloc: Global, state: &mut PrivateState, id: ClauseId) -> Result<
 }
 
 /// The same where the id may be that of a learned clause or of none, for which nothing is dropped.
-pub(crate) fn drop_all_by_any(
-    alloc: Global,
-    state: &mut PrivateState,
-    id: ClauseId,
-) -> Result<u64, NoMemory>
+fn drop_all_by_any(alloc: Global, state: &mut PrivateState, id: ClauseId) -> Result<u64, NoMemory>
     ensures dropped { IfOk result (λ n. Drops n state.old.store.held state.new.store.held) }
     ensures none { IfOk result (λ n. n ≡ 0 → subsumes_none_at state.old.store.held (clause_at state.old.store.held id.0) ≡ true) }
     ensures same { state.new ≡ record state.old { store = record state.old.store { held = state.new.store.held } } }

@@ -2,7 +2,6 @@
 //! Biere, 2005).
 #![tactic(auto)]
 
-mod compared;
 mod drop;
 mod eliminate;
 mod marks;
@@ -10,6 +9,5 @@ mod subsume;
 #[cfg(test)]
 mod tests;
 
-pub use compared::Compared;
 pub use drop::drop_subsumed;
 pub use eliminate::eliminate_some;

@@ -6,7 +6,7 @@ ghost use Rattle.state_laws.specs.Conditions.{Takable};
 ghost use Rattle.state_laws.specs.Held.{in_value};
 ghost use Rattle.state_laws.specs.Kernel.{state_of};
 
-use crate::{Compared, drop_subsumed, eliminate_some};
+use crate::{drop_subsumed, eliminate_some};
 use clause_store::ClauseStore;
 use private_state::PrivateState;
 use sat_lits::{Item, List, Lit, NoMemory, Own, Var};
@@ -78,36 +78,6 @@ fn a_longer_clause_is_subsumed(rt: HostRuntime) -> Result<(), Fail> {
     )?;
     assert_eq!(rt; drop_subsumed(rt.alloc(), &mut state)?, 1);
     assert_eq!(rt; drop_subsumed(rt.alloc(), &mut state)?, 0);
-    Ok(())
-}
-
-/// Whether there is one clause alone.
-fn is_single(store: &ClauseStore) -> bool {
-    match store.first() {
-        Some(id) => store.after(id).is_none(),
-        None => false,
-    }
-}
-
-/// Of `1 2 3` and `2 3 4`, in DIMACS form, then with `2 3`, which stands in both, and then, under new
-/// ids, with `3 4 2`.
-#[test]
-fn new_clauses_are_compared_with_those_before(rt: HostRuntime) -> Result<(), Fail> {
-    let [first, second, third, fourth] = [0, 1, 2, 3].map(positive);
-    let mut state = new_state(rt.alloc(), 4)?;
-    let mut compared = Compared::new();
-    take(&rt, rt.alloc(), &mut state, &[first, second, third])?;
-    take(&rt, rt.alloc(), &mut state, &[second, third, fourth])?;
-    compared.drop_subsumed(rt.alloc(), &mut state)?;
-    assert!(rt; !is_single(state.clauses()));
-    take(&rt, rt.alloc(), &mut state, &[second, third])?;
-    compared.drop_subsumed(rt.alloc(), &mut state)?;
-    assert!(rt; is_single(state.clauses()));
-    compared.before_compact(state.clauses());
-    state.compact();
-    take(&rt, rt.alloc(), &mut state, &[third, fourth, second])?;
-    compared.drop_subsumed(rt.alloc(), &mut state)?;
-    assert!(rt; is_single(state.clauses()));
     Ok(())
 }
 
