@@ -1,5 +1,5 @@
 -- Headers and their literals among the words of a store.
-use Rattle.std.proofs.Common.{◌≡◌, ℕ, zero, suc, ◌+◌, ◌-◌, ◌%◌, ◌<◌, ◌≤◌, ◌^◌, ◌==◌, Bool, true, false, not, ltb, ◌&&◌, List, [], ◌∷◌, ◌++◌, length, get_or, set, take, drop, filter, Option, Some, None, option_map, option_to_list, nat_le, refl, sym, ap, ap₂, ◌∙◌, arith, cond, subst, length-set, length-drop, ltb-true, eq-eqb, ne_eqb, le-leb, ◌⊎◌, inl, inr}
+use Rattle.std.proofs.Common.{◌≡◌, ℕ, zero, suc, ◌+◌, ◌-◌, ◌%◌, ◌<◌, ◌≤◌, ◌==◌, Bool, true, false, not, ltb, ◌&&◌, List, [], ◌∷◌, ◌++◌, length, get_or, set, take, drop, filter, Option, Some, None, option_map, option_to_list, nat_le, refl, sym, ap, ap₂, ◌∙◌, arith, cond, subst, length-set, length-drop, ltb-true, eq-eqb, ne_eqb, le-leb, ◌⊎◌, inl, inr}
 use Rattle.std.proofs.Math.Seq.{take-length}
 use Rattle.std.proofs.lemmas.Bool.{and_from, and_parts, false≢true, true≢false, cases_lt, lt-leb}
 use Rattle.std.proofs.lemmas.List.{take-append-le, take-set-le}
@@ -10,7 +10,9 @@ use Rattle.sat_lits.specs.ListLaws.{all_filter}
 use Rattle.sat_lits.specs.InLits.{is_distinct}
 use Rattle.sat_lits.specs.declared.literal.ClauseId.{ClauseId}
 use Rattle.sat_lits.specs.declared.literal.InLit.{InLit}
+use Rattle.clause_store.specs.declared.store.ClauseStore.TheInside.{Inside}
 use Rattle.clause_store.specs.Store.{Held, Store, held_as, clause_at, is_live, before, without, IsKept}
+use Rattle.clause_store.specs.Inside.{store_of, IsArena}
 use Rattle.clause_store.specs.Words.{first_header, is_header, is_live_header, length_in, learned_in, header_of, can_stand, Stored, stored_at, places_of, held_from, held_in, AreBlocks, step_from}
 use Rattle.clause_store.proofs.Places.{seen, clause_at-first, is_live-first, is_live-past, live_within, walk_past, walk_on, held_from-set, ids_below, rising-places, upto-place, upto-all}
 
@@ -169,35 +171,41 @@ walk_step words place d b l f = go (is_header (get_or words place d)) refl
         rw k (walk_past_lits words place d b l e ∙ past, lits_within words place d b l e)
     go false e = (past, omega arith)
 
--- the store of words
-abbrev pub stored : List InLit → Store
-stored words = record { held = held_in words; given = length words }
+-- the store of words and a mark
+abbrev pub stored : List InLit → ℕ → Store
+stored words mark = record { held = held_in words; given = length words; mark = mark }
 
 -- what the words of a store keep
-pub stored_kept : (words : List InLit) (s : Store) → stored words ≡ s → length words ≤ 2 ^ 32 → list_all (λ h. is_distinct h.lits) (held_in words) ≡ true → IsKept s
-stored_kept words s e f d =
+pub stored_kept : (store : Inside) (s : Store) → store_of store ≡ s → IsArena store → IsKept s
+stored_kept store s e a =
     subst (λ (z : Store). IsKept z) e
-    (record { below = ids_below 0 (length words) (places_of words) (omega (arith, length-places_of words)); few = f; rises = rising-places 0 (places_of words); distinct = d })
+    (record {
+      below = ids_below 0 (length store.words.items) (places_of store.words.items) (omega (arith, length-places_of store.words.items));
+      few = a.few;
+      marked = a.marked;
+      rises = rising-places 0 (places_of store.words.items);
+      distinct = a.distinct;
+    })
 
 -- what is stored, seen in a store
-pub stored_live : (words : List InLit) (s : Store) (id : ℕ) → stored words ≡ s → is_live s.held id ≡ true → is_live (held_in words) id ≡ true
+pub stored_live : {m : ℕ} (words : List InLit) (s : Store) (id : ℕ) → stored words m ≡ s → is_live s.held id ≡ true → is_live (held_in words) id ≡ true
 stored_live words s id e live = ap (λ (z : Store). is_live z.held id) e ∙ live
 
 -- a walk goes on after a live clause
-pub stored_walk_on : (words : List InLit) (s : Store) (id : ClauseId) → stored words ≡ s → is_live s.held id.0 ≡ true
+pub stored_walk_on : {m : ℕ} (words : List InLit) (s : Store) (id : ClauseId) → stored words m ≡ s → is_live s.held id.0 ≡ true
     → held_from 0 (take (id.0 + 1) (places_of words)) ≡ before s.held (Some id) ++ option_to_list (clause_at s.held id.0)
 stored_walk_on words s id e live =
     walk_on id.0 (places_of words) (stored_live words s id.0 e live)
     ∙ ap (λ (z : Store). before z.held (Some id) ++ option_to_list (clause_at z.held id.0)) e
 
 -- the clauses up to an id are those at the places up to it
-pub stored_upto : (words : List InLit) (s : Store) (id : ℕ) → stored words ≡ s → held_from 0 (take (id + 1) (places_of words)) ≡ filter (λ h. nat_le h.id id) s.held
+pub stored_upto : {m : ℕ} (words : List InLit) (s : Store) (id : ℕ) → stored words m ≡ s → held_from 0 (take (id + 1) (places_of words)) ≡ filter (λ h. nat_le h.id id) s.held
 stored_upto words s id e =
     let k : id + 1 ≡ suc id = omega arith in
     rw k (sym (upto-place 0 id id (places_of words) (omega arith)) ∙ ap (λ (z : Store). filter (λ h. nat_le h.id id) z.held) e)
 
 -- no id is past the last word
-pub stored_all : (words : List InLit) (s : Store) (id : ℕ) → stored words ≡ s → length words ≤ id → s.held ≡ filter (λ h. nat_le h.id id) s.held
+pub stored_all : {m : ℕ} (words : List InLit) (s : Store) (id : ℕ) → stored words m ≡ s → length words ≤ id → s.held ≡ filter (λ h. nat_le h.id id) s.held
 stored_all words s id e l =
     sym (ap (λ (z : Store). z.held) e)
     ∙ (sym (upto-all 0 id (places_of words) (omega (arith, length-places_of words))) ∙ ap (λ (z : Store). filter (λ h. nat_le h.id id) z.held) e)
@@ -359,31 +367,31 @@ word_lits words place n d e k =
     difference x y g = omega arith
 
 -- as is whether it is learned
-pub word_learned : (words : List InLit) (s : Store) (place : ℕ) (w : InLit) → stored words ≡ s → is_live s.held place ≡ true → w ≡ get_or words place w
+pub word_learned : {m : ℕ} (words : List InLit) (s : Store) (place : ℕ) (w : InLit) → stored words m ≡ s → is_live s.held place ≡ true → w ≡ get_or words place w
     → option_map (λ (h : Held). h.learned) (clause_at s.held place) ≡ Some (w.var.0 % 2 == 1)
 word_learned words s place w e live i =
     sym (ap (λ (z : Store). option_map (λ (h : Held). h.learned) (clause_at z.held place)) e)
     ∙ (ap (option_map (λ (h : Held). h.learned)) (clause_at-word words place w (stored_live words s place e live)) ∙ ap (λ z. Some (learned_in z)) (sym i))
 
 -- a live id of a store is the place of a word
-pub stored_within : (words : List InLit) (s : Store) (place : ℕ) → stored words ≡ s → is_live s.held place ≡ true → place < length words
+pub stored_within : {m : ℕ} (words : List InLit) (s : Store) (place : ℕ) → stored words m ≡ s → is_live s.held place ≡ true → place < length words
 stored_within words s place e live = live_word words place (stored_live words s place e live)
 
 -- where the clause of a live id is dropped, the words stay as they are but for its header
 pub dropped_blocks : (words : List InLit) (place : ℕ) (w : InLit) → AreBlocks words 0 → w ≡ get_or words place w → AreBlocks (set words place (as_dropped w)) 0
 dropped_blocks words place w b i = subst (λ (z : InLit). AreBlocks (set words place (as_dropped z)) 0) (sym i) (blocks-set words 0 place w b)
 
-pub dropped_held : (words : List InLit) (s : Store) (place : ℕ) (w : InLit) → stored words ≡ s → AreBlocks words 0 → is_live s.held place ≡ true → w ≡ get_or words place w → held_in (set words place (as_dropped w)) ≡ without place (held_in words)
+pub dropped_held : {m : ℕ} (words : List InLit) (s : Store) (place : ℕ) (w : InLit) → stored words m ≡ s → AreBlocks words 0 → is_live s.held place ≡ true → w ≡ get_or words place w → held_in (set words place (as_dropped w)) ≡ without place (held_in words)
 dropped_held words s place w e b live i =
     subst (λ (z : InLit). held_in (set words place (as_dropped z)) ≡ without place (held_in words)) (sym i) (held_in-set words place w b (stored_live words s place e live))
 
-pub dropped_stored : (words : List InLit) (s : Store) (place : ℕ) (w : InLit) → stored words ≡ s → AreBlocks words 0 → is_live s.held place ≡ true → w ≡ get_or words place w
-    → stored (set words place (as_dropped w)) ≡ record s { held = without place s.held }
-dropped_stored words s place w e b live i =
-    ap₂ {C = Store} (λ (h : List Held) (g : ℕ). record { held = h; given = g }) (dropped_held words s place w e b live i) (length-set words place (as_dropped w))
+pub dropped_stored : {m : ℕ} (words : List InLit) (s : Store) (place : ℕ) (w : InLit) → stored words m ≡ s → AreBlocks words 0 → is_live s.held place ≡ true → w ≡ get_or words place w
+    → stored (set words place (as_dropped w)) m ≡ record s { held = without place s.held }
+dropped_stored {m = m} words s place w e b live i =
+    ap₂ {C = Store} (λ (h : List Held) (g : ℕ). record { held = h; given = g; mark = m }) (dropped_held words s place w e b live i) (length-set words place (as_dropped w))
     ∙ ap (λ (z : Store). record z { held = without place z.held }) e
 
-pub dropped_distinct : (words : List InLit) (s : Store) (place : ℕ) (w : InLit) → stored words ≡ s → AreBlocks words 0 → is_live s.held place ≡ true → w ≡ get_or words place w
+pub dropped_distinct : {m : ℕ} (words : List InLit) (s : Store) (place : ℕ) (w : InLit) → stored words m ≡ s → AreBlocks words 0 → is_live s.held place ≡ true → w ≡ get_or words place w
     → list_all (λ h. is_distinct h.lits) (held_in words) ≡ true → list_all (λ h. is_distinct h.lits) (held_in (set words place (as_dropped w))) ≡ true
 dropped_distinct words s place w e b live i d =
     rw (dropped_held words s place w e b live i)

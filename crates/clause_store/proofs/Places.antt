@@ -1,6 +1,6 @@
 -- The clauses at places, as a list of held clauses.
 use Rattle.std.proofs.Common.{◌≡◌, ℕ, zero, suc, ◌+◌, ◌<◌, ◌≤◌, Bool, true, false, eqb, ltb, List, [], ◌∷◌, ◌++◌, length, get_or, set, take, filter, Option, Some, None, option_map, option_to_list, refl, sym, ap, ◌∙◌, arith, append-nil, ne_eqb, eq-eqb, lt-ltb, ltb-true, nat_le}
-use Rattle.std.proofs.lemmas.Bool.{and_from, false≢true, ltb-false, le-leb, lt-leb}
+use Rattle.std.proofs.lemmas.Bool.{and_from, false≢true, ltb-false, le-leb, le-ltb, lt-leb}
 use Rattle.std.specs.List.{list_all}
 use Rattle.std.specs.Option.{is_some}
 use Rattle.clause_store.specs.Store.{Held, held_as, clause_at, is_live, before, without, rising}
@@ -138,6 +138,12 @@ upto-below : (n id : ℕ) (ps : List (Option Stored)) → id < n → filter (λ 
 upto-below n id [] l = refl
 upto-below n id (None ∷ ps) l = upto-below (suc n) id ps (omega arith)
 upto-below n id (Some c ∷ ps) l = rw (lt-leb n id l) (upto-below (suc n) id ps (omega arith))
+
+-- nor one below an earlier place
+pub none-below : (n m : ℕ) (ps : List (Option Stored)) → m ≤ n → filter (λ h. ltb h.id m) (held_from n ps) ≡ []
+none-below n m [] l = refl
+none-below n m (None ∷ ps) l = none-below (suc n) m ps (omega arith)
+none-below n m (Some c ∷ ps) l = rw (le-ltb n m l) (none-below (suc n) m ps (omega arith))
 
 -- the clauses up to an id stand at the places up to it
 pub upto-place : (n j id : ℕ) (ps : List (Option Stored)) → id ≡ n + j → filter (λ h. nat_le h.id id) (held_from n ps) ≡ held_from n (take (suc j) ps)

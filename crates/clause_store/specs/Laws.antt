@@ -1,6 +1,7 @@
 -- Facts on held clauses that every crate above may cite.
-use Rattle.std.proofs.Common.{◌≡◌, ◌==◌, ◌+◌, ◌-◌, ◌<◌, ◌≤◌, suc, Option, Some, None, Bool, true, false, cond, not, List, [], ◌∷◌, ◌++◌, length, map, filter, option_to_list, refl, sym, ap, ◌∙◌, arith, length-append}
+use Rattle.std.proofs.Common.{◌≡◌, ℕ, nat_lt, ltb-true, append-nil, ◌==◌, ◌+◌, ◌-◌, ◌<◌, ◌≤◌, suc, Option, Some, None, Bool, true, false, cond, not, List, [], ◌∷◌, ◌++◌, length, map, filter, option_to_list, refl, sym, ap, ◌∙◌, arith, length-append}
 use Rattle.std.proofs.lemmas.Bool.{false≢true}
+use Rattle.std.proofs.lemmas.List.Elements.{filter-append}
 use Rattle.std.specs.Option.{is_some}
 use Rattle.sat_lits.specs.declared.literal.InLit.{InLit}
 use Rattle.sat_lits.specs.declared.literal.ClauseId.{ClauseId}
@@ -56,3 +57,11 @@ shorter held at id next e l s =
     one : (found : Option Held) → is_some found ≡ true → length (option_to_list found) ≡ 1
     one None f = absurd (false≢true f)
     one (Some h) f = refl
+
+-- a clause whose id is not below the mark is not marked
+pub marked_more : (held : List Held) (mark : ℕ) (new : Held) → mark ≤ new.id → filter (λ clause. nat_lt clause.id mark) (held ++ new ∷ []) ≡ filter (λ clause. nat_lt clause.id mark) held
+marked_more held mark new h = filter-append (λ (clause : Held). nat_lt clause.id mark) held (new ∷ []) ∙ go (nat_lt new.id mark) refl
+  where
+    go : (b : Bool) → nat_lt new.id mark ≡ b → filter (λ (clause : Held). nat_lt clause.id mark) held ++ cond b (new ∷ []) [] ≡ filter (λ (clause : Held). nat_lt clause.id mark) held
+    go true e = let l : new.id < mark = ltb-true _ _ e in absurd (omega (arith, h, l))
+    go false e = append-nil (filter (λ (clause : Held). nat_lt clause.id mark) held)

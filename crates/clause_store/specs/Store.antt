@@ -15,10 +15,11 @@ pub record Held : Type 0 where
 abbrev pub held_as : ℕ → Bool → List InLit → Held
 held_as id learned lits = record { id = id; learned = learned; lits = lits }
 
--- the clauses that are held, in order of addition, and a number above every id given since the ids were last given anew
+-- the clauses that are held, in order of addition, a number above every id given since the ids were last given anew, and the mark, below which the ids of those clauses are that were held when it was set
 pub record Store : Type 0 where
   pub held : List Held
   pub given : ℕ
+  pub mark : ℕ
 
 -- the clause of an id
 abbrev pub clause_at : List Held → ℕ → Option Held
@@ -46,6 +47,10 @@ hard_of held = map (λ clause. clause.lits) (filter (λ clause. not clause.learn
 abbrev pub learned_of : List Held → List (List InLit)
 learned_of held = map (λ clause. clause.lits) (filter (λ clause. clause.learned) held)
 
+-- the clauses that were held when the mark was set and are held still, in order
+abbrev pub marked : Store → List Held
+marked store = filter (λ clause. nat_lt clause.id store.mark) store.held
+
 -- what a clause is, whatever its id: whether it is learned, and its literals
 abbrev pub contents : List Held → List (Bool × List InLit)
 contents held = map (λ clause. (clause.learned, clause.lits)) held
@@ -55,9 +60,10 @@ abbrev pub rising : List Held → Bool
 rising [] = true
 rising (clause ∷ rest) = list_all (λ later. nat_lt clause.id later.id) rest && rising rest
 
--- what every store keeps: ids were given, those that were given fit four bytes, ids rise in order of addition, and no literal stands twice in a clause
+-- what every store keeps: ids were given, those that were given fit four bytes, the mark is not above them, ids rise in order of addition, and no literal stands twice in a clause
 pub record IsKept (store : Store) : Type 0 where
   pub below : list_all (λ clause. nat_lt clause.id store.given) store.held ≡ true
   pub few : store.given ≤ 2 ^ 32
+  pub marked : store.mark ≤ store.given
   pub rises : rising store.held ≡ true
   pub distinct : list_all (λ clause. is_distinct clause.lits) store.held ≡ true

@@ -1,7 +1,7 @@
 ghost use Rattle.std.specs.Prelude.{◌≡◌, ◌<◌, ◌≤◌, ◌+◌, ◌^◌, ◌∷◌, ◌++◌, [], false, Some, length, take, map, filter, nat_le, sum_by, vec_len, vec_capacity, option_map, option_to_list, IfOk, OnErr, IfSome, IsTrue};
 ghost use Rattle.std.specs.List.{slice_range};
 ghost use Rattle.sat_lits.specs.InLits.{is_distinct};
-ghost use Rattle.clause_store.specs.Store.{IsKept, held_as, clause_at, is_live, before, without, contents, hard_of, learned_of};
+ghost use Rattle.clause_store.specs.Store.{IsKept, held_as, clause_at, is_live, before, without, contents, marked, hard_of, learned_of};
 ghost use Rattle.clause_store.specs.Words.{AreBlocks, are_plain, can_stand, closed_up, header_of, held_from, held_in, is_header, is_live_header, length_in, places_of, stays_after, step_from};
 
 use sat_lits::{ClauseId, InLit, Inner, NoMemory};
@@ -28,6 +28,8 @@ pub struct ClauseStore {
     // many literals follow and whether the clause is learned. It is negative where the clause was
     // dropped.
     words: Vec<InLit>,
+    // The number of words when the mark was set. `compact` moves it with the words.
+    mark: usize,
 }
 
 impl Model for ClauseStore {
@@ -45,11 +47,28 @@ impl Model for ClauseStore {
 impl ClauseStore {
     /// A store of no clause. It takes no memory.
     pub fn new(alloc: Global) -> ClauseStore
-        ensures { result ≡ record { held = []; given = 0 } }
+        ensures { result ≡ record { held = []; given = 0; mark = 0 } }
     {
         ClauseStore {
             words: Vec::new(alloc),
+            mark: 0,
         }
+    }
+
+    /// Marks all clauses. Those that are added from now on have ids from the mark on.
+    pub fn set_mark(&mut self)
+        ensures { self.new ≡ record self.old { mark = self.old.given } }
+    {
+        self.mark = self.words.len();
+    }
+
+    /// The mark: a clause was held when it was set exactly where its id is below it. It is 0 where
+    /// none was set.
+    pub fn mark(&self) -> u64
+        ensures value { result ≡ self.now.mark }
+        ensures kept { IsKept self.now }
+    {
+        self.mark as u64
     }
 
     /// Adds a clause, in which no literal stands twice, as the last one, and tells its id, which is
@@ -62,6 +81,8 @@ impl ClauseStore {
         ensures held { IfOk result (λ id. self.new.held ≡ self.old.held ++ held_as id.0 learned lits.now ∷ []) }
         ensures fresh { IfOk result (λ id. self.old.given ≤ id.0) }
         ensures given { IfOk result (λ id. id.0 < self.new.given) }
+        ensures mark { self.new.mark ≡ self.old.mark }
+        ensures marked { marked self.new ≡ marked self.old }
         ensures err { OnErr result (self.new ≡ self.old) }
         ensures kept { IsKept self.old }
         ensures stays_kept { IsKept self.new }
@@ -151,17 +172,20 @@ impl ClauseStore {
     }
 
     /// Gives every clause its id anew and gives back the places of dropped ones, so that only as
-    /// many are left as the clauses and their literals take. The clauses stay, in order. An earlier
-    /// id may be given again, to another clause too, so no caller may keep one. It takes no memory.
+    /// many are left as the clauses and their literals take. The clauses stay, in order, and those that
+    /// were marked are. An earlier id may be given again, to another clause too, so no caller may keep
+    /// one. It takes no memory.
     pub fn compact(&mut self)
         ensures clauses { contents self.new.held ≡ contents self.old.held }
         ensures hard { hard_of self.new.held ≡ hard_of self.old.held }
         ensures learned { learned_of self.new.held ≡ learned_of self.old.held }
         ensures given { self.new.given ≡ sum_by (λ clause. length clause.lits + 1) self.old.held }
+        ensures marked { contents (marked self.new) ≡ contents (marked self.old) }
         ensures kept { IsKept self.new }
     {
-        let end = close_up(&mut self.words);
+        let (end, mark) = close_up(&mut self.words, self.mark);
         self.words.truncate(end);
+        self.mark = mark;
     }
 }
 
@@ -267,12 +291,14 @@ fn first_from(words: &[InLit], start: usize) -> Option<ClauseId>
 }
 
 /// Moves the words of all clauses that were not dropped to the front, in order, and tells how many
-/// they are.
-fn close_up(words: &mut [InLit]) -> usize
-    ensures within { result ≤ length words.old }
-    ensures words { take result words.new ≡ closed_up false words.old }
+/// they are, and how many of them stood before the mark.
+fn close_up(words: &mut [InLit], mark: usize) -> (usize, usize)
+    ensures within { result.0 ≤ length words.old }
+    ensures words { take result.0 words.new ≡ closed_up false words.old }
+    ensures mark { result.1 ≡ length (closed_up false (take mark words.old)) }
 {
     let mut end = 0;
+    let mut closed_mark = 0;
     let mut stays = false;
     for place in 0..words.len() {
         let word = words[place];
@@ -281,8 +307,11 @@ fn close_up(words: &mut [InLit]) -> usize
             words[end] = word;
             end += 1;
         }
+        if place < mark {
+            closed_mark = end;
+        }
     }
-    end
+    (end, closed_mark)
 }
 
 /// Whether a word stays, where the one before it does or does not.
@@ -319,9 +348,12 @@ mod tests {
     #[test]
     fn clauses_are_walked_in_order(rt: HostRuntime) -> Result<(), Fail> {
         let mut store = ClauseStore::new(rt.alloc());
+        assert_eq!(rt; store.mark(), 0);
         let first = store.add(&[FIRST, NOT_SECOND], false)?;
         let second = store.add(&[FIRST], true)?;
         let third = store.add(&[], false)?;
+        store.set_mark();
+        assert_eq!(rt; store.mark(), 6);
         assert_eq!(rt; store.add(&[FIRST, PAST_ALL], false), Err(NoMemory));
         assert!(rt; store.is_live(second));
         store.drop_clause(second);
@@ -339,6 +371,7 @@ mod tests {
         assert_eq!(rt; store.next(fourth), None);
 
         store.compact();
+        assert_eq!(rt; store.mark(), 4);
         let mut next = store.first();
         for (length, is_learned) in [(2, false), (0, false), (1, true)] {
             let id = next.ok_or("a clause less")?;

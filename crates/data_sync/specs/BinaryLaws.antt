@@ -1,10 +1,10 @@
 -- What a learned clause of two literals gives.
-use Rattle.std.proofs.Common.{◌≡◌, ◌⊎◌, inl, inr, ◌≢◌, ℕ, zero, suc, ◌<◌, ◌≤◌, ◌==◌, nat_lt, Bool, true, false, cond, not, ◌&&◌, ◌||◌, List, [], ◌∷◌, Option, Some, None, length, map, get_or, option_map, refl, sym, ap, subst, ◌∙◌, ◌++◌, option_to_list, arith, filter}
+use Rattle.std.proofs.Common.{◌≡◌, ◌⊎◌, inl, inr, ◌≢◌, ℕ, zero, suc, ◌<◌, ◌≤◌, ◌==◌, nat_lt, Bool, true, false, cond, not, ◌&&◌, ◌||◌, List, [], ◌∷◌, Option, Some, None, length, map, get_or, option_map, refl, sym, ap, ◌∙◌, arith, filter}
 use Rattle.std.proofs.lemmas.Bool.{and_parts, false≢true, eq-eqb, lt-ltb, ltb-true, ltb-false}
-use Rattle.std.proofs.lemmas.List.Elements.{All-cons, All-nil, All-append, All-weaker}
+use Rattle.std.proofs.lemmas.List.Elements.{All-cons, All-nil}
 use Rattle.std.proofs.lemmas.Option.{same_Some, none-some}
 use Rattle.std.specs.Bool.{beq}
-use Rattle.std.specs.List.{All, AllPairs, Contains, slice_get}
+use Rattle.std.specs.List.{AllPairs, slice_get}
 use Rattle.sat_lits.specs.Truth.{signed}
 use Rattle.sat_lits.specs.Logs.{IsShareable}
 use Rattle.sat_lits.specs.declared.literal.Lit.{Lit}
@@ -16,12 +16,17 @@ use Rattle.rebuild_stack.specs.PutIn.{same_lit, is_clean}
 use Rattle.rebuild_stack.specs.Roots.{turned}
 use Rattle.clause_store.specs.Store.{Held, clause_at, learned_of}
 use Rattle.var_maps.specs.Maps.{Maps, Matched, outer_at, owner_at}
-use Rattle.state_laws.specs.State.{State, to_own}
+use Rattle.state_laws.specs.State.{State, to_own, is_active}
+use Rattle.private_state.specs.MovingLaws.{active_there}
+use Rattle.std.proofs.lemmas.List.{length-map}
+use Rattle.sat_lits.specs.declared.shared.Shared.{Shared}
+use Rattle.share_store.specs.Log.{HasClause}
+use Rattle.sat_lits.specs.ListLaws.{all_mono, all_get}
+use Rattle.std.specs.List.{list_all}
 use Rattle.state_laws.specs.Held.{own_of, own_or, own_clause, own_clauses}
 use Rattle.state_laws.specs.Kernel.{Kernel, Standing, state_of}
-use Rattle.state_laws.specs.ViewLaws.{clauses_of-append}
 use Rattle.sync_laws.specs.Steps.{IsOuter, in_order}
-use Rattle.data_sync.specs.Giving.{outer_of, outer_where, stored_outer, HasPair}
+use Rattle.data_sync.specs.Giving.{outer_of, outer_where, stored_outer, IsToldAt}
 use Rattle.data_sync.specs.GivingLaws.{outer_is, outer_only}
 
 within_some : {X : Type 0} (xs : List (Option X)) (i : ℕ) (x : X) → get_or xs i None ≡ Some x → i < length xs
@@ -81,6 +86,28 @@ learned_place m (x ∷ hs) i h e l = go (x.id == i) e (learned_place m hs i h)
         (0, here x.learned (ap (λ (c : Held). c.learned) s ∙ l) ∙ ap (λ (c : Held). Some (own_clause m c.lits)) s)
     go false q r = later x.learned (r q l)
 
+-- and its variables are there
+pub learned_there : (k : Kernel) (id : ℕ) (h : Held) → Standing k → clause_at k.store.held id ≡ Some h → h.learned ≡ true → list_all (λ l. nat_lt l.var.0 (length k.definitions)) (own_clause k.maps h.lits) ≡ true
+learned_there k id h s e l =
+    let p : (at : ℕ) × (slice_get (own_clauses k.maps (learned_of k.store.held)) at ≡ Some (own_clause k.maps h.lits)) = learned_place k.maps k.store.held id h e l in
+    all_mono (λ (x : OwnLit). is_active (state_of k) x.var.0) (λ (x : OwnLit). nat_lt x.var.0 (length k.definitions)) (λ x a. lt-ltb _ _ (active_there k x.var.0 s a)) (own_clause k.maps h.lits)
+    (all_get (list_all (λ (x : OwnLit). is_active (state_of k) x.var.0)) (own_clauses k.maps (learned_of k.store.held)) p.0 (own_clause k.maps h.lits) p.1 s.stands.places.placed.learned)
+
+-- a clause is told where that of its outer literals, if it has two, is in the log
+pub told_at : (k : Kernel) (log : List Shared) (id : ℕ) → Standing k
+    → ((h : Held) → clause_at k.store.held id ≡ Some h → h.learned ≡ true → (x y : Lit) (first second : OwnLit) → own_clause k.maps h.lits ≡ first ∷ second ∷ [] → IsOuter (state_of k) x first → IsOuter (state_of k) y second → HasClause log (in_order x y))
+    → IsToldAt k log id
+told_at k log id s f = λ h e l. record { there = learned_there k id h s e l; pair = f h e l }
+
+-- a clause of another length has no two literals
+pub not_two : (m : Maps) (o : Option Held) (h : Held) (lits : List InLit) (first second : OwnLit) → option_map (λ c. c.lits) o ≡ Some lits → o ≡ Some h → own_clause m h.lits ≡ first ∷ second ∷ [] → length lits ≡ 2
+not_two m o h lits first second e f q =
+    let a : h.lits ≡ lits = same_Some h.lits lits (sym (ap (option_map (λ (c : Held). c.lits)) f) ∙ e) in
+    let b : length (own_clause m h.lits) ≡ length h.lits = length-map h.lits (own_of m) in
+    let c : length (own_clause m h.lits) ≡ 2 = ap length q in
+    let d : length h.lits ≡ length lits = ap length a in
+    omega (arith, b, c, d)
+
 apart : (first second : OwnLit) → is_clean (first ∷ second ∷ []) ≡ true → first.var.0 ≡ second.var.0 → ⊥
 apart first second c e =
     let a : ((not (same_lit first second || false) && not (same_lit (turned true first) second || false)) ≡ true) × (is_clean (second ∷ []) ≡ true) = and_parts _ _ c in
@@ -130,25 +157,6 @@ both_own m [] d h g = absurd (omega arith)
 both_own m (x ∷ []) d h g = absurd (omega arith)
 both_own m (x ∷ y ∷ []) d h g = refl
 both_own m (x ∷ y ∷ z ∷ lits) d h g = absurd (omega arith)
-
--- what a walk over stored clauses met, with one more clause
-pub pairs_more : (s : State) (m : Maps) (hs : List Held) (o : Option Held) (old new : List (List Lit)) → ((c : List Lit) → Contains old c → Contains new c)
-    → All (HasPair s old) (own_clauses m (learned_of hs))
-    → ((h : Held) → o ≡ Some h → h.learned ≡ true → HasPair s new (own_clause m h.lits)) → All (HasPair s new) (own_clauses m (learned_of (hs ++ option_to_list o)))
-pairs_more s m hs o old new k a p =
-    subst (λ (z : List (List OwnLit)). All (HasPair s new) z) (sym (clauses_of-append m (λ b. b) hs (option_to_list o)))
-    (All-append (HasPair s new) (own_clauses m (learned_of hs)) (own_clauses m (learned_of (option_to_list o)))
-    (All-weaker (HasPair s old) (HasPair s new) (λ c h x y f g e q r. k (in_order x y) (h x y f g e q r)) (own_clauses m (learned_of hs)) a)
-    (last o p))
-  where
-    one : (h : Held) (b : Bool) → b ≡ h.learned → (h.learned ≡ true → HasPair s new (own_clause m h.lits))
-        → All (HasPair s new) (map (own_clause m) (map (λ (c : Held). c.lits) (cond b (h ∷ []) [])))
-    one h true e f = All-cons (HasPair s new) (own_clause m h.lits) [] (f (sym e)) (All-nil (HasPair s new))
-    one h false e f = All-nil (HasPair s new)
-
-    last : (o : Option Held) → ((h : Held) → o ≡ Some h → h.learned ≡ true → HasPair s new (own_clause m h.lits)) → All (HasPair s new) (own_clauses m (learned_of (option_to_list o)))
-    last None f = All-nil (HasPair s new)
-    last (Some h) f = one h h.learned refl (f h refl)
 
 -- two literals in order, where the first has the lesser variable
 pub in_order-first : (k l : Lit) → k.var.0 < l.var.0 → in_order k l ≡ k ∷ l ∷ []

@@ -3,4 +3,4 @@ use Rattle.data_sync.specs.Books.{Book}
 use Rattle.data_sync.specs.declared.book.SyncBook.TheInside.{Inside}
 
 abbrev pub book_of : Inside → Book
-book_of p = record { cursor = p.reader.cursor; waiting = p.reader.waiting; fixed = p.fixed.clauses; pairs = p.pairs.clauses }
+book_of p = p.reader

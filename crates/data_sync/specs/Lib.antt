@@ -3,7 +3,6 @@ pub mod Taking
 pub mod Giving
 pub mod Syncs
 pub mod ReaderKept
-pub mod OfferedKept
 pub mod BookKept
 pub mod TakingLaws
 pub mod ReadLaws
@@ -11,5 +10,6 @@ pub mod GivingLaws
 pub mod StepLaws
 pub mod OfferLaws
 pub mod BinaryLaws
+pub mod PairLaws
 pub mod HeardLaws
 pub mod SyncLaws

@@ -7,6 +7,7 @@ use Rattle.sat_lits.specs.declared.literal.Lit.{Lit}
 use Rattle.sat_lits.specs.declared.formula.Item.TheVariants.{Clause}
 use Rattle.sat_lits.specs.declared.shared.Shared.{Shared}
 use Rattle.state_laws.specs.State.{State, outer_count}
+use Rattle.sync_laws.specs.Told.{IsTold}
 use Rattle.sync_laws.specs.Met.{IsMet}
 use Rattle.state_laws.specs.Away.{is_away}
 use Rattle.sync_laws.specs.Steps.{StandsIn, waits, IsInStep}
@@ -15,7 +16,7 @@ use Rattle.sync_laws.specs.Steps.{StandsIn, waits, IsInStep}
 abbrev pub AreKnown : State → List Shared → Type 0
 AreKnown s log = All (λ e. names_known (outer_count s.definitions) (Clause e.clause) ≡ true) log
 
--- an entry was taken, which is met; what was met or away stays so
+-- an entry was taken, which is met; what was met, away or told stays so
 pub record Takes (s t : State) (e : Shared) : Type 0 where
   pub entries : t.entries ≡ s.entries ++ e ∷ []
   pub items : t.items ≡ s.items
@@ -24,19 +25,21 @@ pub record Takes (s t : State) (e : Shared) : Type 0 where
   pub keeps : (c : List Lit) → IsMet s c → IsMet t c
   pub own : IsMet t e.clause
   pub away : (l : Lit) → is_away s l ≡ true → is_away t l ≡ true
+  pub told : (log : List Shared) → IsTold s log → IsTold t log
 
 -- an attempt to take an entry: it waits and nothing changes, or it is taken, and counts where another solver gave it
 abbrev pub Attempt : State → State → Shared → ℕ → Option ℕ → Type 0
 Attempt s t e solver None = (t ≡ s) × (list_any (is_away s) e.clause ≡ true)
 Attempt s t e solver (Some n) = Takes s t e × (n ≡ cond {A = ℕ} (e.solver == solver) 0 1)
 
--- entries of the log were taken, and nothing else changed of what the state took
+-- entries of the log were taken, and nothing else changed of what the state took; what was told stays so
 pub record Reads (s t : State) (log : List Shared) : Type 0 where
   pub taken : List Shared
   pub took : t.entries ≡ s.entries ++ taken
   pub stand : All (StandsIn log) taken
   pub items : t.items ≡ s.items
   pub definitions : t.definitions ≡ s.definitions
+  pub told : (l : List Shared) → IsTold s l → IsTold t l
 
 -- how many of the entries that were taken other solvers gave
 abbrev pub others : ℕ → State → State → ℕ

@@ -29,6 +29,9 @@ use Rattle.state_laws.specs.Away.{is_away}
 use Rattle.sync_laws.specs.CoverLaws.{on_root}
 use Rattle.sync_laws.specs.CoversLaws.{root-append}
 use Rattle.sync_laws.specs.MetLaws.{imported-IsMet, imported-own-IsMet, put_into-IsMet, refuted-IsMet}
+use Rattle.sync_laws.specs.Told.{IsTold}
+use Rattle.sync_laws.specs.ToldLaws.{told_fewer}
+use Rattle.sync_laws.specs.KeepLaws.{put_into-KeepsMet, refuted-KeepsMet}
 use Rattle.sync_laws.specs.StepLaws.{next-IsInStep, waits-IsInStep, retried-IsInStep, stands_at}
 use Rattle.data_sync.specs.Taking.{AreKnown, Takes, Attempt, Reads, others, AreAway, HasRead, HasTried}
 
@@ -45,9 +48,12 @@ away_push s e l h = ap is_lost (root-append s (e ∷ []) l) ∙ still_lost (root
 pub takes : (s : State) (e : Shared) → Takable s e.clause → Takes s (settled (own_form s e.clause) (imported e s)) e
 takes s e t = go (own_form s e.clause)
   where
+    told : (log : List Shared) → IsTold s log → IsTold (imported e s) log
+    told log = told_fewer s (imported e s) refl log (λ a. a) (λ a. a)
+
     go : (o : Option (List OwnLit)) → Takes s (settled o (imported e s)) e
-    go None = record { entries = refl; items = refl; definitions = refl; okay = λ k. k; keeps = λ c m. imported-IsMet e s c m; own = imported-own-IsMet e s t; away = λ l a. a }
-    go (Some []) = record { entries = refl; items = refl; definitions = refl; okay = λ k. absurd (false≢true k); keeps = λ c m. refuted-IsMet (imported e s) c (imported-IsMet e s c m); own = refuted-IsMet (imported e s) e.clause (imported-own-IsMet e s t); away = λ l a. a }
+    go None = record { entries = refl; items = refl; definitions = refl; okay = λ k. k; keeps = λ c m. imported-IsMet e s c m; own = imported-own-IsMet e s t; away = λ l a. a; told = told }
+    go (Some []) = record { entries = refl; items = refl; definitions = refl; okay = λ k. absurd (false≢true k); keeps = λ c m. refuted-IsMet (imported e s) c (imported-IsMet e s c m); own = refuted-IsMet (imported e s) e.clause (imported-own-IsMet e s t); away = λ l a. a; told = λ log h. (refuted-KeepsMet (imported e s)).told log (told log h) }
     go (Some (k ∷ [])) =
         record {
           entries = refl;
@@ -57,8 +63,9 @@ takes s e t = go (own_form s e.clause)
           keeps = λ c m. put_into-IsMet (Fix k) (imported e s) c refl (imported-IsMet e s c m);
           own = put_into-IsMet (Fix k) (imported e s) e.clause refl (imported-own-IsMet e s t);
           away = λ l a. away_push s.stack (Fix k) (to_own s.definitions l) a;
+          told = λ log h. (put_into-KeepsMet (Fix k) (imported e s) refl).told log (told log h);
         }
-    go (Some (k ∷ l ∷ c)) = record { entries = refl; items = refl; definitions = refl; okay = λ x. x; keeps = λ d m. imported-IsMet e s d m; own = imported-own-IsMet e s t; away = λ m a. a }
+    go (Some (k ∷ l ∷ c)) = record { entries = refl; items = refl; definitions = refl; okay = λ x. x; keeps = λ d m. imported-IsMet e s d m; own = imported-own-IsMet e s t; away = λ m a. a; told = told }
 
 -- whether an answer says that the entry waits
 abbrev pub is_waits : Import → Bool
@@ -91,7 +98,7 @@ took s t e solver a k q r w n m = go (find (is_away s) e.clause) refl
 
 -- a walk that did not begin
 pub read_none : (s : State) (log : List Shared) → Reads s s log
-read_none s log = record { taken = []; took = sym (append-nil s.entries); stand = All-nil (StandsIn log); items = refl; definitions = refl }
+read_none s log = record { taken = []; took = sym (append-nil s.entries); stand = All-nil (StandsIn log); items = refl; definitions = refl; told = λ l h. h }
 
 reads_more : (s t u : State) (log : List Shared) (e : Shared) → StandsIn log e → Reads s t log → Takes t u e → Reads s u log
 reads_more s t u log e i r x =
@@ -101,6 +108,7 @@ reads_more s t u log e i r x =
       stand = All-push (StandsIn log) r.taken e r.stand i;
       items = x.items ∙ r.items;
       definitions = x.definitions ∙ r.definitions;
+      told = λ l h. x.told l (r.told l h);
     }
 
 known_more : (t u : State) (log : List Shared) (e : Shared) → Takes t u e → AreKnown t log → AreKnown u log

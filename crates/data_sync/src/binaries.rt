@@ -1,17 +1,19 @@
-ghost use Rattle.std.specs.Prelude.{◌≡◌, ◌≢◌, ◌≤◌, true, length, Some, OnOk, IsTrue, All, Contains};
-ghost use Rattle.clause_store.specs.Store.{Held, is_live, clause_at};
-ghost use Rattle.state_laws.specs.Held.{own_clause};
+ghost use Rattle.std.specs.Prelude.{◌≡◌, ◌≢◌, ◌≤◌, true, take, length, IfOk, OnOk, IsTrue, All};
+ghost use Rattle.clause_store.specs.Store.{is_live};
+ghost use Rattle.indexed_store.specs.Lists.{are_below, ids_rise};
 ghost use Rattle.share_store.specs.Log.{HasClause};
 ghost use Rattle.state_laws.specs.Kernel.{state_of, Standing};
 ghost use Rattle.var_maps.specs.Maps.{Matched};
-ghost use Rattle.sync_laws.specs.Steps.{in_order};
-ghost use Rattle.data_sync.specs.Books.{met_in};
-ghost use Rattle.data_sync.specs.Giving.{Gives, AddsOnly, Remembers, KeepsTurns, HasPair, stored_outer};
+ghost use Rattle.sync_laws.specs.Told.{IsToldClause, IsTold, in_order};
+ghost use Rattle.data_sync.specs.Giving.{Gives, KeepsTurns, IsToldAt, stored_outer};
 
-use crate::offered::Offered;
+use crate::giving::give;
+use indexed_store::ShortId;
 use private_state::PrivateState;
 use sat_lits::{ClauseId, InLit, Lit, NoMemory};
 use share_store::Store;
+use smallvec::SmallVec;
+use std::alloc::Global;
 use var_maps::VarMaps;
 
 /// The caller's literal that a stored one stands for. None comes exactly where it stands for none.
@@ -27,44 +29,47 @@ fn outer_in(maps: &VarMaps, lit: InLit) -> Option<Lit>
     })
 }
 
+/// Two literals of different variables as a clause, in the order of their variables. It takes no
+/// allocation.
+fn pair_of(alloc: Global, first: Lit, second: Lit) -> Result<SmallVec<Lit, 2>, NoMemory>
+    ensures { IfOk result (λ clause. clause.items ≡ in_order first second) }
+{
+    if first.var.0 < second.var.0 {
+        return Ok(SmallVec::from_slice(alloc, &[first, second])?);
+    }
+    Ok(SmallVec::from_slice(alloc, &[second, first])?)
+}
+
 /// Offers two literals of the caller, in the order of their variables.
 fn offer_pair(
+    alloc: Global,
     store: &mut Store,
     solver: u32,
     after: u64,
     first: Lit,
     second: Lit,
-    offered: &mut Offered,
 ) -> Result<(), NoMemory>
     requires different { first.var.0 ≢ second.var.0 }
     requires earlier { after ≤ length store.old }
-    requires known { All (HasClause store.old) offered.old.clauses }
-    ensures met { OnOk result (Contains (met_in offered.new) (in_order first second)) }
-    ensures known { All (HasClause store.new) offered.new.clauses }
-    ensures remembers { Remembers store.old store.new offered.old offered.new }
+    ensures has { OnOk result (HasClause store.new (in_order first second)) }
     ensures gives { Gives store.old store.new solver after (in_order first second) }
 {
-    if first.var.0 < second.var.0 {
-        return offered.offer(store, solver, after, &[first, second]);
-    }
-    offered.offer(store, solver, after, &[second, first])
+    let clause = pair_of(alloc, first, second)?;
+    give(store, solver, after, clause.as_slice())
 }
 
-/// Offers a learned clause of two literals, where both are of the caller's variables.
+/// Offers the learned clause of two literals of a live id, where both are of the caller's variables.
 fn offer_clause(
+    alloc: Global,
     state: &PrivateState,
     id: ClauseId,
     store: &mut Store,
     solver: u32,
     after: u64,
-    offered: &mut Offered,
 ) -> Result<(), NoMemory>
     requires live { IsTrue (is_live state.now.store.held id.0) }
     requires earlier { after ≤ length store.old }
-    requires known { All (HasClause store.old) offered.old.clauses }
-    ensures pair { OnOk result ((h : Held) → clause_at state.now.store.held id.0 ≡ Some h → h.learned ≡ true → HasPair (state_of state.now) (met_in offered.new) (own_clause state.now.maps h.lits)) }
-    ensures known { All (HasClause store.new) offered.new.clauses }
-    ensures remembers { Remembers store.old store.new offered.old offered.new }
+    ensures told { OnOk result (IsToldAt state.now store.new id.0) }
     ensures turns { KeepsTurns (state_of state.now) solver after store.old store.new }
 {
     let clauses = state.clauses();
@@ -80,32 +85,60 @@ fn offer_clause(
     let Some(second) = outer_in(state.maps(), *second) else {
         return Ok(());
     };
-    offer_pair(store, solver, after, first, second, offered)
+    offer_pair(alloc, store, solver, after, first, second)
 }
 
-/// Offers each learned clause of two literals of the caller's variables. The only error is want of
-/// memory.
+/// The same for an id that may not be live; then there is nothing to offer.
+fn offer_live(
+    alloc: Global,
+    state: &PrivateState,
+    id: ClauseId,
+    store: &mut Store,
+    solver: u32,
+    after: u64,
+) -> Result<(), NoMemory>
+    requires earlier { after ≤ length store.old }
+    ensures told { OnOk result (IsToldAt state.now store.new id.0) }
+    ensures turns { KeepsTurns (state_of state.now) solver after store.old store.new }
+{
+    if state.clauses().is_live(id) {
+        return offer_clause(alloc, state, id, store, solver, after);
+    }
+    Ok(())
+}
+
+/// How many of rising ids are below a mark. It looks at the others alone, from the last one on.
+fn count_below(ids: &[ShortId], mark: u64) -> usize
+    requires { ids_rise ids.now ≡ true }
+    ensures within { result ≤ length ids.now }
+    ensures below { are_below mark (take result ids.now) ≡ true }
+{
+    let mut count = ids.len();
+    'back: while count > 0 && ids[count - 1].whole().0 >= mark {
+        count -= 1;
+    }
+    count
+}
+
+/// Offers each learned clause of two literals of the caller's variables that came after the mark. So
+/// all of them are told, where those before it were. The only error is want of memory.
 pub(crate) fn offer_binaries(
+    alloc: Global,
     state: &PrivateState,
     store: &mut Store,
     solver: u32,
     after: u64,
-    offered: &mut Offered,
 ) -> Result<(), NoMemory>
     requires earlier { after ≤ length store.old }
-    requires known { All (HasClause store.old) offered.old.clauses }
-    ensures pairs { OnOk result (All (HasPair (state_of state.now) offered.new.clauses) (state_of state.now).learned) }
-    ensures known { All (HasClause store.new) offered.new.clauses }
-    ensures adds { AddsOnly store.old store.new offered.new.clauses }
+    requires told { IsTold (state_of state.now) store.old }
+    ensures told { OnOk result (All (IsToldClause (state_of state.now) store.new) (state_of state.now).learned) }
     ensures standing { Standing state.now }
     ensures turns { KeepsTurns (state_of state.now) solver after store.old store.new }
 {
-    offered.begin();
-    let clauses = state.clauses();
-    let mut at = clauses.first();
-    'walk: while let Some(id) = at {
-        offer_clause(state, id, store, solver, after, offered)?;
-        at = clauses.after(id);
+    let ids = state.pairs();
+    let start = count_below(ids, state.clauses().mark());
+    'offer: for id in &ids[start..] {
+        offer_live(alloc, state, id.whole(), store, solver, after)?;
     }
     Ok(())
 }

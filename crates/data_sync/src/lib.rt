@@ -2,7 +2,8 @@
 //! gives.
 //!
 //! `SyncBook` keeps how far a solver read the log and which entries wait for a variable to come
-//! back. `sync` tries these again, reads on, and offers what the solver found. What came of it is a
+//! back. `sync` tries these again, reads on, and offers what the solver found since its state was marked
+//! last, at the end of the sync before. What came of it is a
 //! turn (`IsTurn` of `sync_laws`): entries of the log were taken, and then clauses were added that
 //! follow from the items with all that was taken.
 #![tactic(auto)]
@@ -10,9 +11,9 @@
 mod binaries;
 mod book;
 mod fixed;
+mod giving;
 mod importing;
 pub mod laws;
-mod offered;
 mod reader;
 #[cfg(test)]
 mod tests;

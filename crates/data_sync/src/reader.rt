@@ -17,9 +17,9 @@ pub(crate) struct LogReader {
 }
 
 impl Model for LogReader {
-    ghost use Rattle.data_sync.specs.Books.{Place};
+    ghost use Rattle.data_sync.specs.Books.{Book};
 
-    ghost Value = { Place };
+    ghost Value = { Book };
 
     ghost use Rattle.data_sync.specs.ReaderKept.{place_of};
 

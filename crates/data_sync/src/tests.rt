@@ -21,9 +21,11 @@ const OWN_FIRST: OwnLit = OwnLit {
     negative: false,
 };
 
-/// A state of two variables, the first of which is fixed.
+/// A state of two variables, the first of which is fixed. Nothing of it is marked.
 fn fixed_state(alloc: Global) -> Result<PrivateState, NoMemory>
-    ensures { IfOk result (λ state. state.entries ≡ []) }
+    ensures entries { IfOk result (λ state. state.entries ≡ []) }
+    ensures learned { IfOk result (λ state. (state_of state).marked_learned ≡ []) }
+    ensures stack { IfOk result (λ state. (state_of state).marked_stack ≡ []) }
 {
     let mut state = PrivateState::new(alloc);
     state.grow(2)?;

@@ -1,7 +1,9 @@
 -- A variable may be replaced by its root, and what is kept then.
-use Rattle.std.proofs.Common.{◌≡◌, ◌≢◌, ℕ, zero, suc, ◌+◌, ◌*◌, ◌/◌, ◌<◌, Bool, true, false, cond, List, [], ◌∷◌, Some, None, Option, length, get_or, set, map, refl, sym, ap, subst, ◌∙◌, arith, ⊎_elim, ne_eqb, count_by}
+use Rattle.std.proofs.Common.{◌≡◌, ◌≢◌, ℕ, zero, suc, ◌+◌, ◌*◌, ◌/◌, ◌<◌, Bool, true, false, cond, if◌then◌else◌, List, [], ◌∷◌, ◌++◌, append_assoc, length-append, Some, None, Option, length, get_or, set, map, refl, sym, ap, subst, ◌∙◌, arith, ⊎_elim, ne_eqb, count_by, ◌≤◌}
 use Rattle.std.proofs.lemmas.List.{get_or-set_other}
 use Rattle.std.proofs.lemmas.List.{append-nil}
+use Rattle.std.proofs.lemmas.Bool.{and_from}
+use Rattle.std.proofs.lemmas.List.Folds.{list_all-append}
 use Rattle.std.proofs.lemmas.List.Sums.{sum_by-set}
 use Rattle.std.specs.Bool.{beq}
 use Rattle.std.specs.Option.{is_some}
@@ -18,7 +20,7 @@ use Rattle.rebuild_stack.specs.declared.entry.Entry.TheVariants.{Equal}
 use Rattle.var_maps.specs.Maps.{Maps, Matched, inner_at, owner_at, number_or, plain, retired}
 use Rattle.state_laws.specs.Conditions.{Satisfies, Pushable}
 use Rattle.state_laws.specs.Held.{own_of, own_or}
-use Rattle.state_laws.specs.Kernel.{Kernel, state_of}
+use Rattle.state_laws.specs.Kernel.{Kernel, state_of, TookSame}
 use Rattle.state_laws.specs.Moves.{put_into}
 use Rattle.state_laws.specs.PlaceLaws.{active_in}
 use Rattle.state_laws.specs.PutIntoLaws.{put_through_value}
@@ -26,7 +28,7 @@ use Rattle.state_laws.specs.State.{State, is_active}
 use Rattle.state_laws.specs.ViewLaws.{get_is_some}
 use Rattle.equiv_replace.specs.Graphs.{HasEdge, AreOnCycle}
 use Rattle.equiv_replace.specs.Nodes.{lit_of}
-use Rattle.equiv_replace.specs.Replaced.{IsReplacing, IsUsed, root_var, Replaced, OnlyReplaced}
+use Rattle.equiv_replace.specs.Replaced.{IsReplacing, IsUsed, root_var, is_equal, Replaced, OnlyReplaced}
 use Rattle.equiv_replace.proofs.Nodes.{half, lit_node, last_edge, root_again}
 
 -- the root of a variable that it replaces is in use
@@ -172,3 +174,39 @@ none_replaced k n e f =
 
 pub only_one_replaced : (k n : Kernel) → Replaced k n 1 → OnlyReplaced k n
 only_one_replaced k n r = record { entries = r.entries; stack = r.stack; equal = r.equal; fewer = let h : count_by (λ b. b) (state_of n).active + 1 ≡ count_by (λ b. b) (state_of k).active = r.fewer in omega arith }
+
+-- some are replaced, and then some more
+replaced_more : (k m n : Kernel) (a b c : ℕ) → c ≡ a + b → Replaced k m a → Replaced m n b → Replaced k n c
+replaced_more k m n a b c e f s =
+    record {
+      entries = f.entries ++ s.entries;
+      stack = s.stack ∙ (ap (λ (z : List Entry). z ++ s.entries) f.stack ∙ append_assoc k.stack f.entries s.entries);
+      equal = list_all-append is_equal f.entries s.entries ∙ and_from _ _ f.equal s.equal;
+      number = let l : length (f.entries ++ s.entries) ≡ length f.entries + length s.entries = length-append f.entries s.entries in let x : length f.entries ≡ a = f.number in let y : length s.entries ≡ b = s.number in omega (arith, l, x, y, e);
+      fewer =
+          let x : count_by (λ b. b) (state_of m).active + a ≡ count_by (λ b. b) (state_of k).active = f.fewer in
+          let y : count_by (λ b. b) (state_of n).active + b ≡ count_by (λ b. b) (state_of m).active = s.fewer in
+          omega (arith, x, y, e);
+      same = λ z o. let x : n ≡ m = s.same (omega (arith, z, e)) o in x ∙ f.same (omega (arith, z, e)) (sym (ap (λ (w : Kernel). w.okay) x) ∙ o);
+    }
+
+-- and then one more or none
+pub replaced_if : (k m n : Kernel) (a c : ℕ) (b x : Bool) → b ≡ x → c ≡ cond x (a + 1) a → Replaced k m a → Replaced m n (if b then 1 else 0) → Replaced k n c
+replaced_if k m n a c b true e f r s = replaced_more k m n a 1 c f r (subst (λ (z : Bool). Replaced m n (if z then 1 else 0)) e s)
+replaced_if k m n a c b false e f r s = replaced_more k m n a 0 c (omega (arith, f)) r (subst (λ (z : Bool). Replaced m n (if z then 1 else 0)) e s)
+
+pub only_more_replaced : (k m n : Kernel) → OnlyReplaced k m → OnlyReplaced m n → OnlyReplaced k n
+only_more_replaced k m n f s =
+    record {
+      entries = f.entries ++ s.entries;
+      stack = s.stack ∙ (ap (λ (z : List Entry). z ++ s.entries) f.stack ∙ append_assoc k.stack f.entries s.entries);
+      equal = list_all-append is_equal f.entries s.entries ∙ and_from _ _ f.equal s.equal;
+      fewer =
+          let x : count_by (λ b. b) (state_of m).active ≤ count_by (λ b. b) (state_of k).active = f.fewer in
+          let y : count_by (λ b. b) (state_of n).active ≤ count_by (λ b. b) (state_of m).active = s.fewer in
+          omega (arith, x, y);
+    }
+
+-- the same was taken from one state to the next and to one after that
+pub took_more : (k m n : Kernel) → TookSame k m → TookSame m n → TookSame k n
+took_more k m n f s = record { items = s.items ∙ f.items; entries = s.entries ∙ f.entries; definitions = s.definitions ∙ f.definitions; okay = λ o. f.okay (s.okay o) }

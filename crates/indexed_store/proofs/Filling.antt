@@ -26,7 +26,7 @@ pub fill_none : (held : List Held) (at : Option ClauseId) (lists : List (Vec Sho
 fill_none held at lists b e = record { ids = λ v. e v ∙ ap (λ hs. ids_at (occurrences v hs)) (sym b); places = λ v. refl }
 
 -- the clause of a live id, by its literals
-found : (held : List Held) (i : ℕ) (lits : List InLit) → option_map (λ h. h.lits) (clause_at held i) ≡ Some lits → (h : Held) × ((clause_at held i ≡ Some h) × (h.lits ≡ lits))
+pub found : (held : List Held) (i : ℕ) (lits : List InLit) → option_map (λ h. h.lits) (clause_at held i) ≡ Some lits → (h : Held) × ((clause_at held i ≡ Some h) × (h.lits ≡ lits))
 found held i lits e = go (clause_at held i) refl e
   where
     go : (o : Option Held) → clause_at held i ≡ o → option_map (λ h. h.lits) o ≡ Some lits → (h : Held) × ((clause_at held i ≡ Some h) × (h.lits ≡ lits))
@@ -75,7 +75,7 @@ before_below (h ∷ held) id r l =
     go true p q m = refl
     go false p q m = and_from _ _ (lt-ltb _ _ (live_above h.id id.0 held p m)) (q m)
 
-below_ids : (n : ℕ) (p : Held → Bool) (held : List Held) → list_all (λ h. ltb h.id n) held ≡ true → are_below n (ids_at (filter p held)) ≡ true
+pub below_ids : (n : ℕ) (p : Held → Bool) (held : List Held) → list_all (λ h. ltb h.id n) held ≡ true → are_below n (ids_at (filter p held)) ≡ true
 below_ids n p [] e = refl
 below_ids n p (h ∷ held) e =
     let a : (ltb h.id n ≡ true) × (list_all (λ k. ltb k.id n) held ≡ true) = and_parts _ _ e in
@@ -96,7 +96,7 @@ fill_new s at id short olds lists f e k l q v =
     ∙ below_ids id.0 (holds v) (before s.held (Some id)) (before_below s.held id k.rises l))
 
 -- the clauses before that of an id are fewer, where it passes the test too
-fewer : (p : Held → Bool) (held : List Held) (id : ClauseId) (h : Held) → clause_at held id.0 ≡ Some h → p h ≡ true → length (filter p (before held (Some id))) < length (filter p held)
+pub fewer : (p : Held → Bool) (held : List Held) (id : ClauseId) (h : Held) → clause_at held id.0 ≡ Some h → p h ≡ true → length (filter p (before held (Some id))) < length (filter p held)
 fewer p [] id h e t = cc
 fewer p (k ∷ held) id h e t = go (k.id == id.0) (λ f. fewer p held id h f t) e
   where
@@ -121,10 +121,22 @@ room_left (w ∷ lists) zero n l m = let e : vec_len w ≡ length w.items = w.ok
 room_left (w ∷ lists) (suc v) n l m = room_left lists v n l m
 
 -- the clauses before the next one
-one_more : (held : List Held) (id : ClauseId) (next : Option ClauseId) (h : Held) (v : ℕ) → clause_at held id.0 ≡ Some h → before held next ≡ before held (Some id) ++ option_to_list (clause_at held id.0)
-    → occurrences v (before held next) ≡ occurrences v (before held (Some id)) ++ cond (holds v h) (h ∷ []) []
-one_more held id next h v e s =
-    ap (occurrences v) (s ∙ ap (λ o. before held (Some id) ++ option_to_list o) e) ∙ filter-append (holds v) (before held (Some id)) (h ∷ [])
+one_more : (p : Held → Bool) (held : List Held) (id : ClauseId) (next : Option ClauseId) (h : Held) → clause_at held id.0 ≡ Some h → before held next ≡ before held (Some id) ++ option_to_list (clause_at held id.0)
+    → filter p (before held next) ≡ filter p (before held (Some id)) ++ cond (p h) (h ∷ []) []
+one_more p held id next h e s =
+    ap (filter p) (s ∙ ap (λ o. before held (Some id) ++ option_to_list o) e) ∙ filter-append p (before held (Some id)) (h ∷ [])
+
+-- the ids of those that pass a test, with that of the next one
+pub more_ids : (p : Held → Bool) (held : List Held) (at : Option ClauseId) (id : ClauseId) (short : ShortId) (next : Option ClauseId) (h : Held) (olds news : List ShortId) → olds ≡ ids_at (filter p (before held at)) → at ≡ Some id
+    → clause_at held id.0 ≡ Some h → before held next ≡ before held (Some id) ++ option_to_list (clause_at held id.0) → short.0 ≡ id.0 → news ≡ olds ++ cond (p h) (short ∷ []) [] → news ≡ ids_at (filter p (before held next))
+more_ids p held at id short next h olds news f e g n w i =
+    i
+    ∙ (ap₂ {C = List ShortId} ◌++◌ (f ∙ ap (λ o. ids_at (filter p (before held o))) e) (last (found_id held id.0 h g ∙ sym w) (p h))
+    ∙ (sym (map-append (λ (k : Held). let c : ShortId = record { 0 = k.id } in c) (filter p (before held (Some id))) (cond (p h) (h ∷ []) [])) ∙ ap ids_at (sym (one_more p held id next h g n))))
+  where
+    last : h.id ≡ short.0 → (b : Bool) → cond b (short ∷ []) [] ≡ ids_at (cond b (h ∷ []) [])
+    last r true = ap (λ n. let c : ShortId = record { 0 = n } in c ∷ []) (sym r)
+    last r false = refl
 
 -- each list of the next clause's variables has room
 pub fill_room : (held : List Held) (at : Option ClauseId) (id : ClauseId) (lits : List InLit) (olds lists : List (Vec ShortId)) → Filling held at olds lists → at ≡ Some id
@@ -145,19 +157,9 @@ pub fill_more : (held : List Held) (at : Option ClauseId) (id : ClauseId) (short
 fill_more held at id short next lits olds lists news f e t n w i p =
     let (h, (g, q)) = found held id.0 lits t in
     record {
-      ids = λ v.
-          i v
-          ∙ (ap₂ {C = List ShortId} ◌++◌ (f.ids v ∙ ap (λ o. ids_at (occurrences v (before held o))) e) (here h v (found_id held id.0 h g ∙ sym w) q)
-          ∙ (sym (map-append (λ (k : Held). let c : ShortId = record { 0 = k.id } in c) (occurrences v (before held (Some id))) (cond (holds v h) (h ∷ []) [])) ∙ ap ids_at (sym (one_more held id next h v g n))));
+      ids = λ v. more_ids (holds v) held at id short next h (ids_of lists v) (ids_of news v) (f.ids v) e g n w (i v ∙ ap (λ (z : List InLit). ids_of lists v ++ added v z short) (sym q));
       places = λ v. p v ∙ f.places v;
     }
-  where
-    here : (h : Held) (v : ℕ) → h.id ≡ short.0 → h.lits ≡ lits → added v lits short ≡ ids_at (cond (holds v h) (h ∷ []) [])
-    here h v r q = ap (λ (z : List InLit). cond (list_any (is_in v) z) (short ∷ []) []) (sym q) ∙ go (holds v h)
-      where
-        go : (b : Bool) → cond b (short ∷ []) [] ≡ ids_at (cond b (h ∷ []) [])
-        go true = ap (λ n. let c : ShortId = record { 0 = n } in c ∷ []) (sym r)
-        go false = refl
 
 -- ids above that of the first clause name the same clauses among the others
 skip : (h : Held) (held : List Held) (ids : List ShortId) → list_all (λ id. ltb h.id id.0) ids ≡ true → clauses_at (h ∷ held) ids ≡ clauses_at held ids
@@ -166,7 +168,7 @@ skip h held (x ∷ ids) e =
     let a : (ltb h.id x.0 ≡ true) × (list_all (λ id. ltb h.id id.0) ids ≡ true) = and_parts _ _ e in
     ap₂ (λ b z. cons_option (cond b (Some h) (clause_at held x.0)) z) (ne_eqb h.id x.0 (λ q. absurd (let l : h.id < x.0 = ltb-true _ _ a.0 in omega arith))) (skip h held ids a.1)
 
-above_ids : (n : ℕ) (p : Held → Bool) (held : List Held) → list_all (λ h. ltb n h.id) held ≡ true → list_all (λ id. ltb n id.0) (ids_at (filter p held)) ≡ true
+pub above_ids : (n : ℕ) (p : Held → Bool) (held : List Held) → list_all (λ h. ltb n h.id) held ≡ true → list_all (λ id. ltb n id.0) (ids_at (filter p held)) ≡ true
 above_ids n p [] e = refl
 above_ids n p (h ∷ held) e =
     let a : (ltb n h.id ≡ true) × (list_all (λ k. ltb n k.id) held ≡ true) = and_parts _ _ e in
@@ -177,7 +179,7 @@ above_ids n p (h ∷ held) e =
     go false l r = r
 
 -- the ids of clauses name them
-named : (p : Held → Bool) (held : List Held) → rising held ≡ true → clauses_at held (ids_at (filter p held)) ≡ filter p held
+pub named : (p : Held → Bool) (held : List Held) → rising held ≡ true → clauses_at held (ids_at (filter p held)) ≡ filter p held
 named p [] r = refl
 named p (h ∷ held) r =
     let a : (list_all (λ k. ltb h.id k.id) held ≡ true) × (rising held ≡ true) = and_parts _ _ r in
@@ -208,21 +210,31 @@ ids_fit [] v = omega arith
 ids_fit (w ∷ lists) zero = let e : vec_len w ≡ length w.items = w.ok.0 in let f : vec_len w ≤ vec_capacity w = w.ok.1 in omega arith
 ids_fit (w ∷ lists) (suc v) = ids_fit lists v
 
-count_of : (v : ℕ) (held : List Held) → length (occurrences v held) ≡ length (filter (λ c. list_any (is_in v) c.1) (contents held))
-count_of v [] = refl
-count_of v (h ∷ held) = go (holds v h) (count_of v held)
+-- a test of what a clause is
+abbrev of_contents : (Bool × List InLit → Bool) → Held → Bool
+of_contents p h = p (h.learned, h.lits)
+
+count_of : (p : Bool × List InLit → Bool) (held : List Held) → length (filter (of_contents p) held) ≡ length (filter p (contents held))
+count_of p [] = refl
+count_of p (h ∷ held) = go (p (h.learned, h.lits)) (count_of p held)
   where
-    go : (b : Bool) → length (occurrences v held) ≡ length (filter (λ c. list_any (is_in v) c.1) (contents held))
-        → length (cond b (h ∷ occurrences v held) (occurrences v held)) ≡ length (cond b ((h.learned, h.lits) ∷ filter (λ c. list_any (is_in v) c.1) (contents held)) (filter (λ c. list_any (is_in v) c.1) (contents held)))
+    go : (b : Bool) → length (filter (of_contents p) held) ≡ length (filter p (contents held))
+        → length (cond b (h ∷ filter (of_contents p) held) (filter (of_contents p) held)) ≡ length (cond b ((h.learned, h.lits) ∷ filter p (contents held)) (filter p (contents held)))
     go true e = omega arith
     go false e = e
+
+-- where clauses are the same, whatever their ids, a list of the ids has a place for each that passes a test
+pub ids_enough : (p : Bool × List InLit → Bool) (held news : List Held) (ids : List ShortId) → clauses_at held ids ≡ filter (of_contents p) held → contents news ≡ contents held → length (filter (of_contents p) news) ≤ length ids
+ids_enough p held news ids f c =
+    let a : length (filter (of_contents p) news) ≡ length (filter (of_contents p) held) = count_of p news ∙ (ap (λ (z : List (Bool × List InLit)). length (filter p z)) c ∙ sym (count_of p held)) in
+    let b : length (clauses_at held ids) ≤ length ids = named_fit held ids in
+    let e : length (clauses_at held ids) ≡ length (filter (of_contents p) held) = ap length f in
+    omega arith
 
 -- where clauses are the same, whatever their ids, the lists have places for the new ids
 pub places_enough : (held news : List Held) (lists olds : List (Vec ShortId)) (v : ℕ) → clauses_at held (ids_of olds v) ≡ occurrences v held → contents news ≡ contents held → places_of lists v ≡ places_of olds v
     → length (occurrences v news) ≤ places_of lists v
 places_enough held news lists olds v f c p =
-    let a : length (occurrences v news) ≡ length (occurrences v held) = count_of v news ∙ (ap (λ (z : List (Bool × List InLit)). length (filter (λ c. list_any (is_in v) c.1) z)) c ∙ sym (count_of v held)) in
-    let b : length (clauses_at held (ids_of olds v)) ≤ length (ids_of olds v) = named_fit held (ids_of olds v) in
-    let d : length (ids_of olds v) ≤ places_of olds v = ids_fit olds v in
-    let e : length (clauses_at held (ids_of olds v)) ≡ length (occurrences v held) = ap length f in
+    let a : length (occurrences v news) ≤ length (ids_of olds v) = ids_enough (λ x. list_any (is_in v) x.1) held news (ids_of olds v) f c in
+    let b : length (ids_of olds v) ≤ places_of olds v = ids_fit olds v in
     omega arith

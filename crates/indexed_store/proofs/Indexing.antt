@@ -3,15 +3,15 @@ use Rattle.std.proofs.Common.{◌≡◌, ℕ, ◌<◌, ◌≤◌, ◌==◌, Bool
 use Rattle.std.proofs.lemmas.Bool.{and_parts, and_from}
 use Rattle.std.proofs.lemmas.List.Elements.{filter-append, filter_map-append}
 use Rattle.std.proofs.lemmas.List.Folds.{find-append}
-use Rattle.std.specs.List.{list_all, list_any, cons_option}
+use Rattle.std.specs.List.{list_all, cons_option}
 use Rattle.std.specs.Option.{option_or, is_some}
 use Rattle.sat_lits.specs.InLits.{is_distinct}
 use Rattle.sat_lits.specs.ListLaws.{all_mono, all_push}
 use Rattle.indexed_store.specs.declared.short_id.ShortId.{ShortId}
 use Rattle.sat_lits.specs.declared.literal.InLit.{InLit}
 use Rattle.clause_store.specs.Store.{Store, Held, IsKept, held_as, clause_at, is_live, rising, without}
-use Rattle.indexed_store.specs.Lists.{added, are_below, is_in}
-use Rattle.indexed_store.specs.Occurrences.{clauses_at, holds, occurrences}
+use Rattle.indexed_store.specs.Lists.{are_below, ids_rise}
+use Rattle.indexed_store.specs.Occurrences.{clauses_at}
 
 -- a clause, unless it has this id
 abbrev pub other_than : ℕ → Option Held → Option Held
@@ -52,19 +52,19 @@ clauses_at-without hs i (x ∷ ids) = ap₂ (λ o z. cons_option o z) (clause_at
         each true e = rw e refl
         each false e = rw e refl
 
-occurrences-without : (v i : ℕ) (hs : List Held) → occurrences v (without i hs) ≡ without i (occurrences v hs)
-occurrences-without v i [] = refl
-occurrences-without v i (h ∷ hs) = go (h.id == i) (holds v h) refl refl (occurrences-without v i hs)
+passed-without : (p : Held → Bool) (i : ℕ) (hs : List Held) → filter p (without i hs) ≡ without i (filter p hs)
+passed-without p i [] = refl
+passed-without p i (h ∷ hs) = go (h.id == i) (p h) refl refl (passed-without p i hs)
   where
-    go : (a b : Bool) → (h.id == i) ≡ a → holds v h ≡ b → occurrences v (without i hs) ≡ without i (occurrences v hs) → occurrences v (cond (not a) (h ∷ without i hs) (without i hs)) ≡ without i (cond b (h ∷ occurrences v hs) (occurrences v hs))
+    go : (a b : Bool) → (h.id == i) ≡ a → p h ≡ b → filter p (without i hs) ≡ without i (filter p hs) → filter p (cond (not a) (h ∷ without i hs) (without i hs)) ≡ without i (cond b (h ∷ filter p hs) (filter p hs))
     go true true e f r = rw e r
     go true false e f r = r
     go false true e f r = rw (f, e) (ap (λ z. h ∷ z) r)
     go false false e f r = rw f r
 
--- the lists still name the clauses of each variable
-pub found_without : (hs : List Held) (i v : ℕ) (ids : List ShortId) → clauses_at hs ids ≡ occurrences v hs → clauses_at (without i hs) ids ≡ occurrences v (without i hs)
-found_without hs i v ids e = clauses_at-without hs i ids ∙ (ap (without i) e ∙ sym (occurrences-without v i hs))
+-- a list still names the clauses that pass a test
+pub found_without : (p : Held → Bool) (hs : List Held) (i : ℕ) (ids : List ShortId) → clauses_at hs ids ≡ filter p hs → clauses_at (without i hs) ids ≡ filter p (without i hs)
+found_without p hs i ids e = clauses_at-without hs i ids ∙ (ap (without i) e ∙ sym (passed-without p i hs))
 
 -- what all clauses pass, those that are left pass
 pub below_without : (p : Held → Bool) (i : ℕ) (hs : List Held) → list_all p hs ≡ true → list_all p (without i hs) ≡ true
@@ -109,14 +109,14 @@ clauses_at-new hs h g id e l i =
     ap (λ o. cons_option o [])
     (find-append (λ (k : Held). k.id == id.0) hs (h ∷ []) ∙ ap₂ (λ o b. option_or o (cond b (Some h) None)) (new_at hs g id.0 e l) (eq-eqb h.id id.0 i))
 
--- the lists name the clauses of each variable where one more was added
-pub found_more : (hs news : List Held) (g v : ℕ) (id : ShortId) (learned : Bool) (lits : List InLit) (olds ids : List ShortId) → list_all (λ k. ltb k.id g) hs ≡ true → are_below g olds ≡ true → g ≤ id.0
-    → news ≡ hs ++ held_as id.0 learned lits ∷ [] → ids ≡ olds ++ added v lits id → clauses_at hs olds ≡ occurrences v hs → clauses_at news ids ≡ occurrences v news
-found_more hs news g v id learned lits olds ids e o l n i f =
+-- a list names the clauses that pass a test where one more was added
+pub found_more : (p : Held → Bool) (hs news : List Held) (g : ℕ) (id : ShortId) (learned : Bool) (lits : List InLit) (olds ids : List ShortId) → list_all (λ k. ltb k.id g) hs ≡ true → are_below g olds ≡ true → g ≤ id.0
+    → news ≡ hs ++ held_as id.0 learned lits ∷ [] → ids ≡ olds ++ cond (p (held_as id.0 learned lits)) (id ∷ []) [] → clauses_at hs olds ≡ filter p hs → clauses_at news ids ≡ filter p news
+found_more p hs news g id learned lits olds ids e o l n i f =
     ap₂ (λ z w. clauses_at z w) n i
-    ∙ (filter_map-append (λ (x : ShortId). clause_at (hs ++ h ∷ []) x.0) olds (added v lits id)
-    ∙ (ap₂ {C = List Held} ◌++◌ (clauses_at-more hs h g olds o l ∙ f) (last (list_any (is_in v) lits))
-    ∙ (sym (filter-append (holds v) hs (h ∷ [])) ∙ ap (occurrences v) (sym n))))
+    ∙ (filter_map-append (λ (x : ShortId). clause_at (hs ++ h ∷ []) x.0) olds (cond (p h) (id ∷ []) [])
+    ∙ (ap₂ {C = List Held} ◌++◌ (clauses_at-more hs h g olds o l ∙ f) (last (p h))
+    ∙ (sym (filter-append p hs (h ∷ [])) ∙ ap (filter p) (sym n))))
   where
     h : Held
     h = held_as id.0 learned lits
@@ -134,8 +134,8 @@ held_below hs news g n h e l m q =
     ap (list_all (λ (k : Held). ltb k.id n)) q
     ∙ all_push (λ (k : Held). ltb k.id n) hs h (all_mono (λ (k : Held). ltb k.id g) (λ k. ltb k.id n) (λ k. le_mono k.id g n (omega arith)) hs e) (lt-ltb h.id n m)
 
-pub ids_below : (olds ids : List ShortId) (g n v : ℕ) (id : ShortId) (lits : List InLit) → are_below g olds ≡ true → g ≤ id.0 → id.0 < n → ids ≡ olds ++ added v lits id → are_below n ids ≡ true
-ids_below olds ids g n v id lits e l m q = ap (are_below n) q ∙ go (list_any (is_in v) lits)
+pub ids_below : (olds ids : List ShortId) (g n : ℕ) (id : ShortId) (b : Bool) → are_below g olds ≡ true → g ≤ id.0 → id.0 < n → ids ≡ olds ++ cond b (id ∷ []) [] → are_below n ids ≡ true
+ids_below olds ids g n id b e l m q = ap (are_below n) q ∙ go b
   where
     more : are_below n olds ≡ true
     more = all_mono (λ (k : ShortId). ltb k.0 g) (λ k. ltb k.0 n) (λ k. le_mono k.0 g n (omega arith)) olds e
@@ -148,6 +148,21 @@ ids_below olds ids g n v id lits e l m q = ap (are_below n) q ∙ go (list_any (
 pub below_more : (g n : ℕ) (ids : List ShortId) → g ≤ n → are_below g ids ≡ true → are_below n ids ≡ true
 below_more g n ids l e = all_mono (λ (k : ShortId). ltb k.0 g) (λ k. ltb k.0 n) (λ k. le_mono k.0 g n l) ids e
 
+-- ids rise where one more is above them
+push_rise : (g : ℕ) (ids : List ShortId) (id : ShortId) → are_below g ids ≡ true → g ≤ id.0 → ids_rise ids ≡ true → ids_rise (ids ++ id ∷ []) ≡ true
+push_rise g [] id e l r = refl
+push_rise g (x ∷ ids) id e l r =
+    let a : (ltb x.0 g ≡ true) × (are_below g ids ≡ true) = and_parts _ _ e in
+    let b : (list_all (λ k. ltb x.0 k.0) ids ≡ true) × (ids_rise ids ≡ true) = and_parts _ _ r in
+    and_from _ _ (all_push (λ (k : ShortId). ltb x.0 k.0) ids id b.0 (le_mono x.0 g id.0 l a.0)) (push_rise g ids id a.1 l b.1)
+
+pub rise_more : (olds ids : List ShortId) (g : ℕ) (id : ShortId) (b : Bool) → are_below g olds ≡ true → g ≤ id.0 → ids ≡ olds ++ cond b (id ∷ []) [] → ids_rise olds ≡ true → ids_rise ids ≡ true
+rise_more olds ids g id b e l q r = ap ids_rise q ∙ go b
+  where
+    go : (b : Bool) → ids_rise (olds ++ cond b (id ∷ []) []) ≡ true
+    go true = push_rise g olds id e l r
+    go false = ap ids_rise (append-nil olds) ∙ r
+
 -- the ids that are not live name nothing
 pub clauses_at-live : (hs : List Held) (ids : List ShortId) → clauses_at hs (filter (λ id. is_live hs id.0) ids) ≡ clauses_at hs ids
 clauses_at-live hs [] = refl
@@ -159,14 +174,25 @@ clauses_at-live hs (x ∷ ids) = go (clause_at hs x.0) refl (clauses_at-live hs 
     go (Some h) e r = ap₂ (λ o z. cons_option o z) e r
 
 -- what all ids pass, those that are left pass
-pub below_filter : (test : ShortId → Bool) (g : ℕ) (ids : List ShortId) → are_below g ids ≡ true → are_below g (filter test ids) ≡ true
-below_filter test g [] e = refl
-below_filter test g (x ∷ ids) e =
-    let a : (ltb x.0 g ≡ true) × (are_below g ids ≡ true) = and_parts _ _ e in
-    go (test x) a.0 (below_filter test g ids a.1)
+pub all_filter : (test p : ShortId → Bool) (ids : List ShortId) → list_all p ids ≡ true → list_all p (filter test ids) ≡ true
+all_filter test p [] e = refl
+all_filter test p (x ∷ ids) e =
+    let a : (p x ≡ true) × (list_all p ids ≡ true) = and_parts _ _ e in
+    go (test x) a.0 (all_filter test p ids a.1)
   where
-    go : (b : Bool) → ltb x.0 g ≡ true → are_below g (filter test ids) ≡ true → are_below g (cond b (x ∷ filter test ids) (filter test ids)) ≡ true
+    go : (b : Bool) → p x ≡ true → list_all p (filter test ids) ≡ true → list_all p (cond b (x ∷ filter test ids) (filter test ids)) ≡ true
     go true q r = and_from _ _ q r
+    go false q r = r
+
+-- those that are left rise
+pub rise_filter : (test : ShortId → Bool) (ids : List ShortId) → ids_rise ids ≡ true → ids_rise (filter test ids) ≡ true
+rise_filter test [] e = refl
+rise_filter test (x ∷ ids) e =
+    let a : (list_all (λ k. ltb x.0 k.0) ids ≡ true) × (ids_rise ids ≡ true) = and_parts _ _ e in
+    go (test x) a.0 (rise_filter test ids a.1)
+  where
+    go : (b : Bool) → list_all (λ k. ltb x.0 k.0) ids ≡ true → ids_rise (filter test ids) ≡ true → ids_rise (cond b (x ∷ filter test ids) (filter test ids)) ≡ true
+    go true q r = and_from _ _ (all_filter test (λ k. ltb x.0 k.0) ids q) r
     go false q r = r
 
 rising-without : (i : ℕ) (hs : List Held) → rising hs ≡ true → rising (without i hs) ≡ true
@@ -185,6 +211,7 @@ kept_without s i k =
     record {
       below = below_without (λ (h : Held). ltb h.id s.given) i s.held k.below;
       few = k.few;
+      marked = k.marked;
       rises = rising-without i s.held k.rises;
       distinct = below_without (λ (h : Held). is_distinct h.lits) i s.held k.distinct;
     }

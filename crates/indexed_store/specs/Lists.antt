@@ -1,5 +1,5 @@
 -- Lists of ids by variable, and the room that is left in them.
-use Rattle.std.specs.Prelude.{ℕ, ◌-◌, ◌==◌, Bool, false, List, [], ◌∷◌, ◌++◌, Option, Some, None, nat_lt, if◌then◌else◌, slice_get, vec_capacity, vec_len}
+use Rattle.std.specs.Prelude.{ℕ, ◌-◌, ◌==◌, ◌&&◌, Bool, true, false, List, [], ◌∷◌, ◌++◌, Option, Some, None, nat_lt, if◌then◌else◌, slice_get, vec_capacity, vec_len}
 use Rattle.std.specs.List.{list_all, list_any}
 use Rattle.std.specs.Global.{Vec}
 use Rattle.indexed_store.specs.declared.short_id.ShortId.{ShortId}
@@ -57,3 +57,8 @@ added v lits id = if list_any (is_in v) lits then id ∷ [] else []
 -- whether all ids are below a number
 abbrev pub are_below : ℕ → List ShortId → Bool
 are_below n ids = list_all (λ id. nat_lt id.0 n) ids
+
+-- whether ids rise
+abbrev pub ids_rise : List ShortId → Bool
+ids_rise [] = true
+ids_rise (id ∷ ids) = list_all (λ later. nat_lt id.0 later.0) ids && ids_rise ids

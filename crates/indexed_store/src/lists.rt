@@ -23,7 +23,7 @@ fn make_place(alloc: Global, lists: &mut Vec<Vec<ShortId>>, var: Inner) -> Resul
 
 /// Makes room for one more id in a list, which doubles where it is full. So it takes at most eight
 /// bytes for each id that it has held at once.
-fn reserve_place(list: &mut Vec<ShortId>) -> Result<(), NoMemory>
+pub(crate) fn reserve_place(list: &mut Vec<ShortId>) -> Result<(), NoMemory>
     ensures items { list.new.items ≡ list.old.items }
     ensures room { vec_capacity list.old ≤ vec_capacity list.new }
     ensures more { OnOk result (vec_len list.new < vec_capacity list.new) }
@@ -95,7 +95,7 @@ pub(crate) fn push_each(lists: &mut Vec<Vec<ShortId>>, lits: &[InLit], id: Short
 }
 
 /// Leaves the live ids alone.
-fn sweep_list(store: &ClauseStore, list: &mut Vec<ShortId>)
+pub(crate) fn sweep_list(store: &ClauseStore, list: &mut Vec<ShortId>)
     ensures items { list.new.items ≡ filter (λ id. is_live store.now.held id.0) list.old.items }
     ensures places { vec_capacity list.new ≡ vec_capacity list.old }
 {

@@ -1,11 +1,13 @@
-ghost use Rattle.std.specs.Prelude.{◌≡◌, ◌<◌, ◌≤◌, ◌+◌, ◌∷◌, ◌++◌, [], false, length, sum_by, IfOk, OnErr, IsTrue};
+ghost use Rattle.std.specs.Prelude.{◌≡◌, ◌<◌, ◌≤◌, ◌+◌, ◌∷◌, ◌++◌, [], true, false, filter, length, sum_by, IfOk, OnErr, IsTrue};
 ghost use Rattle.sat_lits.specs.InLits.{is_distinct};
-ghost use Rattle.clause_store.specs.Store.{IsKept, held_as, is_live, without, contents, hard_of, learned_of};
-ghost use Rattle.indexed_store.specs.Occurrences.{clauses_at, occurrences};
+ghost use Rattle.clause_store.specs.Store.{IsKept, held_as, is_live, without, contents, hard_of, learned_of, marked};
+ghost use Rattle.indexed_store.specs.Occurrences.{clauses_at, is_pair, occurrences};
+ghost use Rattle.indexed_store.specs.Lists.{ids_rise};
 ghost use Rattle.indexed_store.specs.Bounds.{is_bounded};
 
 use crate::flags::{clear_flags, make_flags, write_flag};
-use crate::lists::{clear_each, fill, push_each, reserve_each, sweep};
+use crate::lists::{clear_each, fill, push_each, reserve_each, sweep, sweep_list};
+use crate::pairs::{push_pair, refill_pairs, reserve_pair};
 use crate::short_id::ShortId;
 use clause_store::ClauseStore;
 use sat_lits::{ClauseId, InLit, Inner, NoMemory};
@@ -19,6 +21,8 @@ pub struct IndexedStore {
     store: ClauseStore,
     // By variable, in order of addition. Ids of dropped clauses may stay.
     lists: Vec<Vec<ShortId>>,
+    // The ids of the learned clauses of two literals, in order. Ids of dropped clauses may stay.
+    pairs: Vec<ShortId>,
     // The literals of the clauses, and of dropped ones whose ids may stand in the lists.
     live: u64,
     stale: u64,
@@ -41,12 +45,13 @@ impl Model for IndexedStore {
 impl IndexedStore {
     /// A store of no clause. It takes no memory.
     pub fn new(alloc: Global) -> IndexedStore
-        ensures { result ≡ record { held = []; given = 0 } }
+        ensures { result ≡ record { held = []; given = 0; mark = 0 } }
     {
         IndexedStore {
             alloc,
             store: ClauseStore::new(alloc),
             lists: Vec::new(alloc),
+            pairs: Vec::new(alloc),
             live: 0,
             stale: 0,
             aside: Vec::new(alloc),
@@ -71,6 +76,23 @@ impl IndexedStore {
             Some(list) => list.as_slice(),
             None => &[],
         }
+    }
+
+    /// The ids of the learned clauses of two literals, in order of addition. Among them may be ids that
+    /// are not live.
+    pub fn pairs(&self) -> &[ShortId]
+        ensures value { clauses_at self.now.held result.now ≡ filter is_pair self.now.held }
+        ensures rises { ids_rise result.now ≡ true }
+        ensures kept { IsKept self.now }
+    {
+        self.pairs.as_slice()
+    }
+
+    /// Marks all clauses (`mark` of `ClauseStore`).
+    pub fn set_mark(&mut self)
+        ensures { self.new ≡ record self.old { mark = self.old.given } }
+    {
+        self.store.set_mark();
     }
 
     /// Whether a variable was set aside, and no hard clause that holds it was added or dropped since.
@@ -100,12 +122,17 @@ impl IndexedStore {
         ensures held { IfOk result (λ id. self.new.held ≡ self.old.held ++ held_as id.0 learned lits.now ∷ []) }
         ensures fresh { IfOk result (λ id. self.old.given ≤ id.0) }
         ensures given { IfOk result (λ id. id.0 < self.new.given) }
+        ensures mark { self.new.mark ≡ self.old.mark }
+        ensures marked { marked self.new ≡ marked self.old }
         ensures err { OnErr result (self.new ≡ self.old) }
     {
         reserve_each(self.alloc, &mut self.lists, lits)?;
+        reserve_pair(&mut self.pairs, lits, learned)?;
         make_flags(&mut self.aside, self.lists.len())?;
         let id = self.store.add(lits, learned)?;
-        push_each(&mut self.lists, lits, ShortId::of(id));
+        let short = ShortId::of(id);
+        push_each(&mut self.lists, lits, short);
+        push_pair(&mut self.pairs, lits, learned, short);
         clear_flags(&mut self.aside, lits, learned);
         self.live = self.live.saturating_add(lits.len() as u64);
         Ok(id)
@@ -132,22 +159,26 @@ impl IndexedStore {
     {
         if self.stale > self.live.saturating_add(self.lists.len() as u64) {
             sweep(&self.store, &mut self.lists);
+            sweep_list(&self.store, &mut self.pairs);
             self.stale = 0;
         }
     }
 
     /// Gives every clause its id anew and frees the places of dropped ones, so that only as many are
-    /// left as the clauses and their literals take. The clauses stay, in order. An earlier id may be given again, to another clause too, so no caller may keep one.
-    /// It takes no memory: the lists are made anew where they stand.
+    /// left as the clauses and their literals take. The clauses stay, in order, and those that were marked
+    /// are. An earlier id may be given again, to another clause too, so no caller may keep one. It takes
+    /// no memory: the lists are made anew where they stand.
     pub fn compact(&mut self)
         ensures clauses { contents self.new.held ≡ contents self.old.held }
         ensures hard { hard_of self.new.held ≡ hard_of self.old.held }
         ensures learned { learned_of self.new.held ≡ learned_of self.old.held }
         ensures given { self.new.given ≡ sum_by (λ clause. length clause.lits + 1) self.old.held }
+        ensures marked { contents (marked self.new) ≡ contents (marked self.old) }
     {
         self.store.compact();
         clear_each(&mut self.lists);
         fill(&self.store, &mut self.lists);
+        refill_pairs(&self.store, &mut self.pairs);
         self.stale = 0;
     }
 }
@@ -177,11 +208,14 @@ mod tests {
             [ShortId::of(both), ShortId::of(one)].as_slice()
         );
         assert_eq!(rt; store.occurrences(Inner(1)), [ShortId::of(both)].as_slice());
+        let pair = store.add(&[NOT_SECOND, FIRST], true)?;
+        assert_eq!(rt; store.pairs(), [ShortId::of(pair)].as_slice());
         assert!(rt; store.store().is_live(ShortId::of(both).whole()));
         store.drop_clause(both);
         store.compact();
-        assert_eq!(rt; store.occurrences(Inner(0)).len(), 1);
-        assert_eq!(rt; store.occurrences(Inner(1)).len(), 0);
+        assert_eq!(rt; store.occurrences(Inner(0)).len(), 2);
+        assert_eq!(rt; store.occurrences(Inner(1)).len(), 1);
+        assert_eq!(rt; store.pairs().len(), 1);
         Ok(())
     }
 }

@@ -85,6 +85,7 @@ kept_without id s k =
     record {
       below = all_filter (λ (h : Held). ltb h.id s.given) (λ h. not (h.id == id)) (λ h. ltb h.id s.given) (λ h e f. e) s.held k.below;
       few = k.few;
+      marked = k.marked;
       rises = rising_filter (λ h. not (h.id == id)) s.held k.rises;
       distinct = all_filter (λ (h : Held). is_distinct h.lits) (λ h. not (h.id == id)) (λ h. is_distinct h.lits) (λ h e f. e) s.held k.distinct;
     }

@@ -15,6 +15,7 @@ use Rattle.clause_store.specs.Store.{Store, Held, IsKept, clause_at, is_live, be
 use Rattle.state_laws.specs.Resolution.{mentions}
 use Rattle.state_laws.specs.Held.{own_of, own_clause, touches}
 use Rattle.state_laws.specs.HeldLaws.{all_found, filter_none}
+use Rattle.state_laws.specs.MarkLaws.{filter_swap}
 use Rattle.state_laws.specs.Kernel.{Kernel, Keeps}
 use Rattle.one_solver.specs.Learned.{is_long, is_long_at, numbers_in, noted, HasNoted, NotesLong}
 use Rattle.one_solver.proofs.Walking.{live_clause, found_id}
@@ -116,17 +117,6 @@ filter_less p q (n ∷ ns) e =
     go false true s f r = rw s r
     go false false s f r = r
     go true false s f r = absurd (false≢true f)
-
--- two tests may be made in either order
-filter_swap : (p q : Held → Bool) (held : List Held) → filter p (filter q held) ≡ filter q (filter p held)
-filter_swap p q [] = refl
-filter_swap p q (h ∷ held) = go (p h) (q h) refl refl (filter_swap p q held)
-  where
-    go : (x y : Bool) → p h ≡ x → q h ≡ y → filter p (filter q held) ≡ filter q (filter p held) → filter p (cond y (h ∷ filter q held) (filter q held)) ≡ filter q (cond x (h ∷ filter p held) (filter p held))
-    go true true s t r = rw (s, t) (ap (λ z. h ∷ z) r)
-    go false true s t r = rw s r
-    go true false s t r = rw t r
-    go false false s t r = r
 
 -- of the clauses up to an id, where that of the id is left out, those that are left stood before it
 upto_left : (q : Held → Bool) (held : List Held) (id : ClauseId) → rising held ≡ true → is_live held id.0 ≡ true → ((h : Held) → clause_at held id.0 ≡ Some h → q h ≡ false)

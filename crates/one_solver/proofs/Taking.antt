@@ -28,6 +28,7 @@ use Rattle.state_laws.specs.Kernel.{Kernel, state_of, plain_kernel, TookSame}
 use Rattle.private_state.specs.Taking.{IsTakable, item_taken}
 use Rattle.private_state.specs.MovingLaws.{plain_state}
 use Rattle.parity_forms.specs.Parities.{parity_pieces, parity_taken, definitions_of, clauses_of}
+use Rattle.sync_laws.specs.ToldLaws.{told_from}
 use Rattle.sync_laws.specs.Met.{KeepsMet, IsMet, is_covered, bindings, gone_clauses}
 use Rattle.sync_laws.specs.CoversLaws.{own_more as same_own, taking-Covers}
 use Rattle.sync_laws.specs.KeepLaws.{keeps_trans, taken-KeepsMet}
@@ -72,7 +73,7 @@ outer_same ds es = ap length (outers_from-append 0 ds (map Some es) ∙ (ap (λ 
 
 -- a parity that is taken keeps what is met
 parity_met : (vars : List Var) (rhs : Bool) (s : State) → KeepsMet s (parity_taken vars rhs s)
-parity_met vars rhs s = record { met = λ c m. record { there = there c m; covers = covers c m }; entries = refl; okay = λ o. o }
+parity_met vars rhs s = record { met = λ c m. record { there = there c m; covers = covers c m }; entries = refl; okay = λ o. o; told = λ log. told_from s (parity_taken vars rhs s) ds refl log (λ a. a) (λ a. a) }
   where
     ds : List (Option Definition)
     ds = map Some (definitions_of (parity_pieces s vars rhs))

@@ -1,5 +1,5 @@
 -- Learned clauses that are dropped again.
-use Rattle.std.specs.Prelude.{◌≡◌, ◌≤◌, ◌-◌, ℕ, Bool, true, false, not, ◌&&◌, List, [], ◌∷◌, ◌++◌, if◌then◌else◌, length, map, filter, drop, nat_lt, option_map, unwrap_or, IfSome}
+use Rattle.std.specs.Prelude.{◌≡◌, ◌≤◌, ◌-◌, ℕ, Bool, true, false, not, ◌&&◌, List, [], ◌∷◌, ◌++◌, if◌then◌else◌, length, map, filter, drop, nat_lt, option_map, unwrap_or, IfSome, All, Contains}
 use Rattle.std.specs.declared.option.Option.{Option}
 use Rattle.std.specs.Global.{Vec}
 use Rattle.std.specs.List.{list_all}
@@ -15,10 +15,11 @@ is_long clause = clause.learned && nat_lt 2 (length clause.lits)
 abbrev pub is_long_at : List Held → ℕ → Bool
 is_long_at held id = unwrap_or (option_map is_long (clause_at held id)) false
 
--- nothing but learned clauses was dropped
+-- nothing but learned clauses was dropped, and none is marked that was not
 pub record HasForgotten (old new : Kernel) : Type 0 where
   pub same : new ≡ record old { store = new.store }
   pub hard : (state_of new).hard ≡ (state_of old).hard
+  pub marked : All (Contains (state_of old).marked_learned) (state_of new).marked_learned
 
 -- at most so many learned clauses of more than two literals are held
 abbrev pub HasFewLong : ℕ → Kernel → Type 0

@@ -177,7 +177,7 @@ definable_distinct k d fresh h x q e =
 pub definable_made : (k n : Kernel) (d : Definition) (made : Made) (from to : Tables) → Standing k → IsDefinable (state_of k) d → Matched k.maps
     → made.definitions.items ≡ d ∷ [] → in_clauses made.clauses.items ≡ map hard_in (stored_definition k.maps d) → IsMade made from to
     → from.maps ≡ k.maps → from.store ≡ k.store → from.removed.entries ≡ k.stack → from.definitions ≡ k.definitions → n.maps ≡ to.maps → n.store ≡ to.store → n.stack ≡ to.removed.entries → n.definitions ≡ to.definitions
-    → n.entries ≡ k.entries → n.okay ≡ k.okay → HasMade k n (d ∷ []) (in_clauses made.clauses.items) (defining_clauses (length k.definitions) d)
-definable_made k n d made from to h x q ds cs y fm fs fr fd nm ns nr nd ne o =
-    tables_made k n (d ∷ []) (stored_definition k.maps d) (defining_clauses (length k.definitions) d) made from to ds cs y fm fs fr fd nm ns nr nd ne o
+    → n.entries ≡ k.entries → n.okay ≡ k.okay → n.stack_mark ≡ k.stack_mark → HasMade k n (d ∷ []) (in_clauses made.clauses.items) (defining_clauses (length k.definitions) d)
+definable_made k n d made from to h x q ds cs y fm fs fr fd nm ns nr nd ne o sm =
+    tables_made k n (d ∷ []) (stored_definition k.maps d) (defining_clauses (length k.definitions) d) made from to ds cs y fm fs fr fd nm ns nr nd ne o sm
     (λ m. stored_defining k.maps n.maps d m.owners q (definable_named k d h x) ∙ ap (λ (j : ℕ). defining_clauses j d) (inners_len k h))

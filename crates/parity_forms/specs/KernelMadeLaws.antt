@@ -1,19 +1,22 @@
 -- A kernel in which private variables are made and clauses are held.
-use Rattle.std.proofs.Common.{◌≡◌, ℕ, zero, suc, ◌+◌, ◌<◌, Bool, true, false, not, List, [], ◌∷◌, ◌++◌, Option, Some, None, is_some, length, map, replicate, get_or, refl, sym, ap, ap₂, subst, ◌∙◌, arith, append-nil, append_assoc}
+use Rattle.std.proofs.Common.{◌≡◌, ℕ, zero, suc, ◌+◌, ◌<◌, Bool, true, false, not, List, [], ◌∷◌, ◌++◌, Option, Some, None, is_some, length, map, take, replicate, get_or, refl, sym, ap, ap₂, subst, ◌∙◌, arith, append-nil, append_assoc}
 use Rattle.std.proofs.lemmas.List.{map-append, get_or_append_left, replicate-append-replicate}
+use Rattle.std.specs.List.{list_all}
 use Rattle.sat_lits.specs.declared.literal.Own.{Own}
 use Rattle.sat_lits.specs.declared.literal.OwnLit.{OwnLit}
 use Rattle.sat_lits.specs.declared.literal.Var.{Var}
 use Rattle.sat_lits.specs.declared.formula.Item.{Item}
-use Rattle.clause_store.specs.Store.{hard_of, learned_of}
+use Rattle.rebuild_stack.specs.declared.entry.Entry.{Entry}
+use Rattle.clause_store.specs.Store.{Held, hard_of, learned_of, marked}
 use Rattle.var_maps.specs.Maps.{Maps, Added, owner_at}
 use Rattle.xor_cut.specs.Pieces.{own_var, own_vars}
 use Rattle.state_laws.specs.declared.definition.Definition.{Definition}
-use Rattle.state_laws.specs.State.{State, outers_from}
+use Rattle.state_laws.specs.State.{State, is_active, outers_from}
 use Rattle.state_laws.specs.Stands.{Stands}
-use Rattle.state_laws.specs.Held.{InClause, in_own, hard_clause, ExtendsBy}
+use Rattle.state_laws.specs.Held.{InClause, in_own, own_clauses, hard_clause, ExtendsBy}
 use Rattle.state_laws.specs.Kernel.{Kernel, state_of, Standing, Longer}
 use Rattle.state_laws.specs.ExtendLaws.{outers_from-append}
+use Rattle.state_laws.specs.MarkLaws.{marked_pass}
 use Rattle.state_laws.specs.ViewLaws.{state_of_parts, clauses_of, clauses_of-append, listed, listed-hard, listed-none, news_of, view_clauses, past_active}
 use Rattle.parity_forms.specs.Parities.{defining}
 use Rattle.parity_forms.specs.InMaps.{HasPrivates}
@@ -51,6 +54,7 @@ pub record HasMade (k n : Kernel) (ds : List Definition) (clauses : List InClaus
   pub definitions : n.definitions ≡ k.definitions ++ map Some ds
   pub maps : HasPrivates (length ds) k.maps n.maps
   pub stack : n.stack ≡ k.stack
+  pub stack_mark : n.stack_mark ≡ k.stack_mark
   pub okay : n.okay ≡ k.okay
   pub extends : ExtendsBy k.store n.store clauses
   pub become : map (in_own n.maps) clauses ≡ map hard_clause made
@@ -88,6 +92,9 @@ made_state k n ds clauses made items p i h =
     (clauses_then k n ds clauses made p (λ b. b) (view_clauses k.maps n.maps (λ j. get_or (map is_some k.maps.inners) j false) (past_active k.maps.inners) (λ j v o t. owner_stays (length ds) k.maps n.maps p.maps j v o) (learned_of k.store.held) h.places.placed.learned)
     ∙ (ap (λ z. (state_of k).learned ++ z) (listed-none made) ∙ append-nil (state_of k).learned))
     p.stack p.maps.active p.okay
+    (ap (λ (hs : List Held). own_clauses n.maps (learned_of hs)) p.extends.marked
+    ∙ sym (view_clauses k.maps n.maps (λ j. get_or (map is_some k.maps.inners) j false) (past_active k.maps.inners) (λ j v o t. owner_stays (length ds) k.maps n.maps p.maps j v o) (learned_of (marked k.store)) (marked_pass (list_all (λ (l : OwnLit). is_active (state_of k) l.var.0)) k.maps k.store h.places.placed.learned)))
+    (ap₂ {C = List Entry} take p.stack_mark p.stack)
 
 no_outers : (j : ℕ) (ds : List Definition) → outers_from j (map Some ds) ≡ []
 no_outers j [] = refl
@@ -108,4 +115,5 @@ made-Standing k n ds clauses made items p i s h =
       private = ap (map is_some) p.definitions
           ∙ (map-append is_some k.definitions (map Some ds)
           ∙ (ap₂ {C = List Bool} ◌++◌ h.private (all_private ds) ∙ sym p.maps.private));
+      within = let b : n.stack_mark ≡ k.stack_mark = p.stack_mark in let c : length n.stack ≡ length k.stack = ap length p.stack in omega (arith, h.within, b, c);
     }

@@ -107,8 +107,8 @@ parity_distinct k vars rhs fresh h t d e =
 -- private variables and clauses were made in the tables of a kernel
 pub tables_made : (k n : Kernel) (ds : List Definition) (forms : List (List InLit)) (own : List (List OwnLit)) (made : Made) (from to : Tables) → made.definitions.items ≡ ds → in_clauses made.clauses.items ≡ map hard_in forms → IsMade made from to
     → from.maps ≡ k.maps → from.store ≡ k.store → from.removed.entries ≡ k.stack → from.definitions ≡ k.definitions → n.maps ≡ to.maps → n.store ≡ to.store → n.stack ≡ to.removed.entries → n.definitions ≡ to.definitions
-    → n.entries ≡ k.entries → n.okay ≡ k.okay → (HasPrivates (length ds) k.maps n.maps → map (own_clause n.maps) forms ≡ own) → HasMade k n ds (in_clauses made.clauses.items) own
-tables_made k n ds forms own made from to de cs x fm fs fr fd nm ns nr nd ne o become =
+    → n.entries ≡ k.entries → n.okay ≡ k.okay → n.stack_mark ≡ k.stack_mark → (HasPrivates (length ds) k.maps n.maps → map (own_clause n.maps) forms ≡ own) → HasMade k n ds (in_clauses made.clauses.items) own
+tables_made k n ds forms own made from to de cs x fm fs fr fd nm ns nr nd ne o sm become =
     let maps : HasPrivates (length ds) k.maps n.maps =
     subst (λ (m : Maps). HasPrivates (length ds) k.maps m) (sym nm)
     (subst (λ (m : Maps). HasPrivates (length ds) m to.maps) fm (subst (λ (z : List Definition). HasPrivates (length z) from.maps to.maps) de x.maps)) in
@@ -117,6 +117,7 @@ tables_made k n ds forms own made from to de cs x fm fs fr fd nm ns nr nd ne o b
       definitions = nd ∙ (x.definitions ∙ ap₂ {C = List (Option Definition)} (λ (a : List (Option Definition)) (b : List Definition). a ++ map Some b) fd de);
       maps = maps;
       stack = nr ∙ (ap (λ (r : Removed). r.entries) x.removed ∙ fr);
+      stack_mark = sm;
       okay = o;
       extends = subst (λ (s : Store). ExtendsBy k.store s (in_clauses made.clauses.items)) (sym ns) (subst (λ (s : Store). ExtendsBy s to.store (in_clauses made.clauses.items)) fs x.extends);
       become = ap (map (in_own n.maps)) cs ∙ (hard_own n.maps forms ∙ ap (map hard_clause) (become maps));
@@ -126,17 +127,17 @@ tables_made k n ds forms own made from to de cs x fm fs fr fd nm ns nr nd ne o b
 pub parity_made : (k n : Kernel) (vars : List Var) (rhs : Bool) (made : Made) (from to : Tables) → Standing k → ParityTakable (state_of k) vars rhs → Matched k.maps
     → made.definitions.items ≡ definitions_of (parity_pieces (state_of k) vars rhs) → in_clauses made.clauses.items ≡ map hard_in (all_stored_forms k.maps (parity_pieces (state_of k) vars rhs)) → IsMade made from to
     → from.maps ≡ k.maps → from.store ≡ k.store → from.removed.entries ≡ k.stack → from.definitions ≡ k.definitions → n.maps ≡ to.maps → n.store ≡ to.store → n.stack ≡ to.removed.entries → n.definitions ≡ to.definitions
-    → n.entries ≡ k.entries → n.okay ≡ k.okay → HasMade k n (definitions_of (parity_pieces (state_of k) vars rhs)) (in_clauses made.clauses.items) (clauses_of (parity_pieces (state_of k) vars rhs))
-parity_made k n vars rhs made from to h t d ds cs x fm fs fr fd nm ns nr nd ne o =
-    tables_made k n (definitions_of (parity_pieces (state_of k) vars rhs)) (all_stored_forms k.maps (parity_pieces (state_of k) vars rhs)) (clauses_of (parity_pieces (state_of k) vars rhs)) made from to ds cs x fm fs fr fd nm ns nr nd ne o
+    → n.entries ≡ k.entries → n.okay ≡ k.okay → n.stack_mark ≡ k.stack_mark → HasMade k n (definitions_of (parity_pieces (state_of k) vars rhs)) (in_clauses made.clauses.items) (clauses_of (parity_pieces (state_of k) vars rhs))
+parity_made k n vars rhs made from to h t d ds cs x fm fs fr fd nm ns nr nd ne o sm =
+    tables_made k n (definitions_of (parity_pieces (state_of k) vars rhs)) (all_stored_forms k.maps (parity_pieces (state_of k) vars rhs)) (clauses_of (parity_pieces (state_of k) vars rhs)) made from to ds cs x fm fs fr fd nm ns nr nd ne o sm
     (λ m. all_stored_own (parity_cuts k vars) k.maps n.maps (parity_pieces (state_of k) vars rhs) (m.owners ∙ ap (λ j. k.maps.owners ++ map Some (own_vars (length k.maps.inners) j)) (parity_definitions k vars rhs)) d (parity_named k vars rhs h t))
 
 -- all is as before
 pub unmade_kernel : (k : Kernel) (items : List Item) (from to : Tables) → items ≡ k.items → from.maps ≡ k.maps → from.store ≡ k.store → from.removed.entries ≡ k.stack → from.definitions ≡ k.definitions → IsUnmade from to
     → plain_kernel (record k { items = items; definitions = to.definitions; maps = to.maps; store = to.store; stack = to.removed.entries }) ≡ plain_kernel k
 unmade_kernel k items from to i fm fs fr fd x =
-    ap (λ (z : Maps). let y : Kernel = record k { items = items; definitions = to.definitions; maps = z; store = record { held = to.store.held; given = 0 }; stack = to.removed.entries } in y) (x.maps ∙ ap plain fm)
-    ∙ rw (i, let a : to.definitions ≡ k.definitions = x.definitions ∙ fd in a, let b : to.store.held ≡ k.store.held = x.held ∙ ap (λ (s : Store). s.held) fs in b, let c : to.removed.entries ≡ k.stack = ap (λ (r : Removed). r.entries) x.removed ∙ fr in c) refl
+    ap (λ (z : Maps). let y : Kernel = record k { items = items; definitions = to.definitions; maps = z; store = record { held = to.store.held; given = 0; mark = to.store.mark }; stack = to.removed.entries } in y) (x.maps ∙ ap plain fm)
+    ∙ rw (i, let a : to.definitions ≡ k.definitions = x.definitions ∙ fd in a, let b : to.store.held ≡ k.store.held = x.held ∙ ap (λ (s : Store). s.held) fs in b, let d : to.store.mark ≡ k.store.mark = x.mark ∙ ap (λ (s : Store). s.mark) fs in d, let c : to.removed.entries ≡ k.stack = ap (λ (r : Removed). r.entries) x.removed ∙ fr in c) refl
 
 -- the table of removed variables knows the private ones that were made
 pub made_vars : (r q : Removed) (ds : List Definition) (from to : List (Option Definition)) → r.vars ≡ length from → q ≡ record r { vars = r.vars + length ds } → to ≡ from ++ map (λ d. let o : Option Definition = Some d in o) ds → q.vars ≡ length to

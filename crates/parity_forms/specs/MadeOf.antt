@@ -28,5 +28,6 @@ pub record IsMade (made : Made) (from to : Tables) : Type 0 where
 pub record IsUnmade (from to : Tables) : Type 0 where
   pub maps : plain to.maps ≡ plain from.maps
   pub held : to.store.held ≡ from.store.held
+  pub mark : to.store.mark ≡ from.store.mark
   pub removed : to.removed ≡ from.removed
   pub definitions : to.definitions ≡ from.definitions

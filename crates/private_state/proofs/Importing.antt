@@ -14,7 +14,7 @@ use Rattle.sat_lits.specs.declared.literal.InLit.{InLit}
 use Rattle.sat_lits.specs.declared.formula.Item.TheVariants.{Clause}
 use Rattle.sat_lits.specs.declared.shared.Shared.{Shared}
 use Rattle.rebuild_stack.specs.Roots.{root, is_lost}
-use Rattle.clause_store.specs.Store.{Store, Held, held_as, is_live, rising, without, IsKept}
+use Rattle.clause_store.specs.Store.{Store, Held, held_as, is_live, rising, without, marked, IsKept}
 use Rattle.state_laws.specs.State.{State, is_active, outers_from, outer_count}
 use Rattle.state_laws.specs.Conditions.{Takable, EntryFollows, IsContradicted}
 use Rattle.state_laws.specs.Moves.{own_form, imported}
@@ -74,14 +74,15 @@ taken_answer o form p e f = ap₂ answer_of (sym e) (sym f)
 
 -- a clause was added that is this in own literals
 pub held_more : (k : Kernel) (s : Store) (entries : List Shared) (id : ℕ) (lits : List InLit) (c : List Lit) (own : List OwnLit) → own_form (state_of k) c ≡ Some own → own_clause k.maps lits ≡ own
-    → s.held ≡ k.store.held ++ held_as id false lits ∷ [] → k.store.given ≤ id → HoldsMore k (record k { entries = entries; store = s }) (hard_in lits ∷ []) (option_to_list (own_form (state_of k) c))
-held_more k s entries id lits c own f o e g =
+    → s.held ≡ k.store.held ++ held_as id false lits ∷ [] → k.store.given ≤ id → s.mark ≡ k.store.mark → marked s ≡ marked k.store → HoldsMore k (record k { entries = entries; store = s }) (hard_in lits ∷ []) (option_to_list (own_form (state_of k) c))
+held_more k s entries id lits c own f o e g m n =
     record {
       definitions = refl;
       maps = refl;
       stack = refl;
+      stack_mark = refl;
       okay = refl;
-      extends = record { news = held_as id false lits ∷ []; held = e; contents = refl; fresh = and_from _ _ (le-leb _ _ g) refl };
+      extends = record { news = held_as id false lits ∷ []; held = e; contents = refl; fresh = and_from _ _ (le-leb _ _ g) refl; mark = m; marked = n };
       become = ap (λ (z : List OwnLit). hard_clause z ∷ []) o ∙ ap (λ (z : Option (List OwnLit)). map hard_clause (option_to_list z)) (sym f);
     }
 
@@ -137,10 +138,12 @@ vain_held k h n e lits id x q = ap (λ (z : Kernel). z.store.held) q ∙ x.held
 pub taken_back : (k h n : Kernel) (e : Shared) (lits : List InLit) (id : ℕ) → Holds k h e lits id → plain_kernel n ≡ plain_kernel h → IsKept n.store → (entries : List Shared) → entries ≡ k.entries
     → (s : Store) → s ≡ record n.store { held = without id n.store.held } → plain_kernel (record n { entries = entries; store = s }) ≡ plain_kernel k
 taken_back k h n e lits id x q kept entries p s t =
-    ap₂ (λ (es : List Shared) (hs : List Held). plain_kernel (record n { entries = es; store = record { held = hs; given = 0 } })) p
-    (ap (λ (z : Store). z.held) t ∙ (ap (without id) (vain_held k h n e lits id x q) ∙ added_dropped k.store.held id lits (sym (ap rising (vain_held k h n e lits id x q)) ∙ kept.rises)))
-    ∙ (ap (λ (z : Kernel). let y : Kernel = record z { entries = k.entries; store = record { held = k.store.held; given = 0 } } in y) q
-    ∙ ap (λ (z : Kernel). let y : Kernel = record (plain_kernel z) { entries = k.entries; store = record { held = k.store.held; given = 0 } } in y) x.is)
+    ap₂ (λ (es : List Shared) (y : Store). plain_kernel (record n { entries = es; store = y })) p t
+    ∙ (ap₂ (λ (hs : List Held) (m : ℕ). plain_kernel (record n { entries = k.entries; store = record { held = hs; given = 0; mark = m } }))
+    (ap (without id) (vain_held k h n e lits id x q) ∙ added_dropped k.store.held id lits (sym (ap rising (vain_held k h n e lits id x q)) ∙ kept.rises))
+    (ap (λ (z : Kernel). z.store.mark) q ∙ x.mark)
+    ∙ (ap (λ (z : Kernel). let y : Kernel = record z { entries = k.entries; store = record { held = k.store.held; given = 0; mark = k.store.mark } } in y) q
+    ∙ ap (λ (z : Kernel). let y : Kernel = record (plain_kernel z) { entries = k.entries; store = record { held = k.store.held; given = 0; mark = k.store.mark } } in y) x.is))
 
 -- where the entry is held, all other clauses keep their ids
 pub holds_longer : (k h : Kernel) (e : Shared) (lits : List InLit) (id : ℕ) → Holds k h e lits id → Longer k h × (h.maps ≡ k.maps)

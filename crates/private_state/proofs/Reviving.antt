@@ -1,5 +1,5 @@
 -- The maps of a variable that is made active again, and of one for which that was undone.
-use Rattle.std.proofs.Common.{◌≡◌, ◌↔◌, get_or-set_same, get_or-set_other, ℕ, zero, suc, ◌+◌, ◌<◌, ◌≤◌, ◌==◌, Bool, true, false, cond, List, [], ◌∷◌, Option, Some, None, refl, sym, ap, subst, ◌∙◌, arith, length, get_or, set, map, slice_get, drop, is_some, eqb-true}
+use Rattle.std.proofs.Common.{◌≡◌, ◌↔◌, get_or-set_same, get_or-set_other, ℕ, zero, suc, ◌+◌, ◌<◌, ◌≤◌, ◌==◌, Bool, true, false, cond, List, [], ◌∷◌, Option, Some, None, refl, sym, ap, ap₂, subst, ◌∙◌, arith, length, get_or, set, map, filter, nat_lt, slice_get, drop, is_some, eqb-true}
 use Rattle.std.proofs.Math.Path.{fun_ext}
 use Rattle.std.proofs.lemmas.Bool.{and_parts, eqb-false, ltb-true, eq-eqb}
 use Rattle.std.proofs.lemmas.List.{map-set, length-map}
@@ -17,7 +17,7 @@ use Rattle.rebuild_stack.specs.Roots.{root}
 use Rattle.rebuild_stack.specs.PutIn.{put_in_all}
 use Rattle.rebuild_stack.specs.OrderLaws.{times_any}
 use Rattle.rebuild_stack.specs.declared.entry.Entry.TheVariants.{Gone}
-use Rattle.clause_store.specs.Store.{Store, hard_of, learned_of}
+use Rattle.clause_store.specs.Store.{Store, Held, hard_of, learned_of, marked}
 use Rattle.var_maps.specs.Maps.{Maps, Revived, inner_at, owner_at, number_or, plain, retired}
 use Rattle.state_laws.specs.State.{is_active}
 use Rattle.state_laws.specs.Conditions.{Restorable}
@@ -70,12 +70,14 @@ revived_back k m n v i r none l e = record { inners = inners; owner = owner; out
         go false q = get_or-set_other m.owners i.0 j None None (eqb-false _ _ q) ∙ (r.numbered.given j ∙ ap (λ b. cond b (Some v) (owner_at k j)) q)
 
 -- a state with maps that say the same and the same clauses is seen as before
-pub same_state : (k : Kernel) (n : Maps) (s : Store) → SayTheSame k.maps n → s.held ≡ k.store.held → state_of (record k { maps = n; store = s }) ≡ state_of k
-same_state k n s r h =
+pub same_state : (k : Kernel) (n : Maps) (s : Store) → SayTheSame k.maps n → s.held ≡ k.store.held → s.mark ≡ k.store.mark → state_of (record k { maps = n; store = s }) ≡ state_of k
+same_state k n s r h m =
     state_of_parts (record k { maps = n; store = s }) refl refl refl
     (own_clauses_same k.maps n r.inners r.owner (hard_of s.held) ∙ ap (λ z. own_clauses k.maps (hard_of z)) h)
     (own_clauses_same k.maps n r.inners r.owner (learned_of s.held) ∙ ap (λ z. own_clauses k.maps (learned_of z)) h)
     refl (ap (map is_some) r.inners) refl
+    (own_clauses_same k.maps n r.inners r.owner (learned_of (marked s)) ∙ ap₂ (λ (hs : List Held) (x : ℕ). own_clauses k.maps (learned_of (filter (λ c. nat_lt c.id x) hs))) h m)
+    refl
 
 -- a variable of an entry is there, and has no inner number
 pub gone_there : (k : Kernel) (at : ℕ) (v : Own) (cs : List (List OwnLit)) → slice_get k.stack at ≡ Some (Gone v cs) → Standing k → v.0 < length k.maps.inners

@@ -1,14 +1,19 @@
 -- A kernel in whose stack the entries of variables still stand that are active again.
-use Rattle.std.proofs.Common.{◌≡◌, ℕ, suc, ◌+◌, ◌<◌, ◌≤◌, ◌==◌, Bool, true, false, cond, not, ◌&&◌, List, [], ◌∷◌, Option, Some, None, refl, sym, ap, ◌∙◌, arith, length, get_or, get_or-set_same, get_or-set_other, map, filter, take, drop, slice_get, remove, is_some, eq-eqb}
-use Rattle.std.proofs.lemmas.Bool.{or_left, or_right, eqb-false, true≢false}
+use Rattle.std.proofs.Common.{◌≡◌, ℕ, zero, suc, ◌+◌, ◌-◌, ◌<◌, ◌≤◌, ◌==◌, Bool, true, false, cond, not, ◌&&◌, List, [], ◌∷◌, ◌++◌, Option, Some, None, refl, sym, ap, ap₂, ◌∙◌, arith, length, length-append, nat_lt, ltb-true, ltb-false, get_or, get_or-set_same, get_or-set_other, map, filter, take, drop, slice_get, remove, is_some, eq-eqb}
+use Rattle.std.proofs.lemmas.Bool.{or_left, or_right, or_parts, eqb-false, true≢false}
+use Rattle.std.proofs.lemmas.List.{take-append-drop, length-take-le}
+use Rattle.std.proofs.lemmas.List.Edits.{length-remove}
+use Rattle.std.proofs.lemmas.List.Elements.{filter-append}
+use Rattle.std.proofs.lemmas.List.Folds.{list_any-append}
 use Rattle.std.specs.List.{list_any}
+use Rattle.sat_lits.specs.ListLaws.{any_get}
 use Rattle.sat_lits.specs.declared.literal.Own.{Own}
 use Rattle.sat_lits.specs.declared.literal.OwnLit.{OwnLit}
 use Rattle.sat_lits.specs.declared.literal.Inner.{Inner}
 use Rattle.rebuild_stack.specs.Entries.{named, names, is_gone, times_named}
 use Rattle.rebuild_stack.specs.Roots.{root}
 use Rattle.rebuild_stack.specs.RootLaws.{root_past}
-use Rattle.rebuild_stack.specs.OrderLaws.{unnamed}
+use Rattle.rebuild_stack.specs.OrderLaws.{unnamed, times_any, times_named-append}
 use Rattle.rebuild_stack.specs.PutIn.{put_in_all}
 use Rattle.rebuild_stack.specs.Values.{each_lit}
 use Rattle.rebuild_stack.specs.declared.entry.Entry.{Entry}
@@ -20,6 +25,7 @@ use Rattle.state_laws.specs.Moves.{restored}
 use Rattle.state_laws.specs.Held.{has_inner, hard_clause}
 use Rattle.state_laws.specs.Kernel.{Kernel, Standing, state_of}
 use Rattle.state_laws.specs.KernelRestoreLaws.{Restoration, restored_state, restored-Standing}
+use Rattle.state_laws.specs.MarkLaws.{left_of}
 use Rattle.state_laws.specs.PlaceLaws.{one_if, once_named}
 use Rattle.state_laws.specs.RestoreLaws.{restored-Stands}
 use Rattle.state_laws.specs.ViewLaws.{get_is_some, same_state-Standing}
@@ -33,7 +39,18 @@ use Rattle.private_state.proofs.Reviving.{gone_there, gone_inactive, restored_ac
 
 -- the kernel without those entries
 abbrev pub thinned : Kernel → Kernel
-thinned k = record k { stack = left_by k.maps k.stack }
+thinned k = record k { stack = left_by k.maps k.stack; stack_mark = length (left_by k.maps (take k.stack_mark k.stack)) }
+
+-- what stays of the first entries and of the others
+left_parts : (p : Entry → Bool) (s : List Entry) (m : ℕ) → filter p s ≡ filter p (take m s) ++ filter p (drop m s)
+left_parts p s m = ap (filter p) (sym (take-append-drop m s)) ∙ filter-append p (take m s) (drop m s)
+
+-- no more are marked than are left
+thinned_within : (k : Kernel) → (thinned k).stack_mark ≤ length (thinned k).stack
+thinned_within k =
+    let a : length (left_by k.maps k.stack) ≡ length (left_by k.maps (take k.stack_mark k.stack)) + length (left_by k.maps (drop k.stack_mark k.stack)) =
+    ap length (left_parts (stays (active_in k.maps)) k.stack k.stack_mark) ∙ length-append (left_by k.maps (take k.stack_mark k.stack)) (left_by k.maps (drop k.stack_mark k.stack)) in
+    omega (arith, a)
 
 all_left : (m : ℕ → Bool) (s : List Entry) → ((k : ℕ) → list_any (names k) s ≡ true → m k ≡ false) → filter (stays m) s ≡ s
 all_left m [] h = refl
@@ -45,19 +62,78 @@ all_left m (e ∷ s) h =
     here true = refl
     here false = refl
 
--- a kernel that stands has none
-pub none_thinned : (k : Kernel) → Standing k → left_by k.maps k.stack ≡ k.stack
-none_thinned k h = all_left (active_in k.maps) k.stack away
+-- an entry of a kernel that stands is of no active variable
+away : (k : Kernel) → Standing k → (j : ℕ) → list_any (names j) k.stack ≡ true → active_in k.maps j ≡ false
+away k h j q = go (active_in k.maps j) refl
   where
-    away : (j : ℕ) → list_any (names j) k.stack ≡ true → active_in k.maps j ≡ false
-    away j q = go (active_in k.maps j) refl
-      where
-        go : (b : Bool) → active_in k.maps j ≡ b → b ≡ false
-        go true t = absurd (true≢false (sym q ∙ active_unnamed k j h (get_is_some k.maps.inners j ∙ t)))
-        go false t = refl
+    go : (b : Bool) → active_in k.maps j ≡ b → b ≡ false
+    go true t = absurd (true≢false (sym q ∙ active_unnamed k j h (get_is_some k.maps.inners j ∙ t)))
+    go false t = refl
+
+-- so it has none of those
+pub none_thinned : (k : Kernel) → Standing k → left_by k.maps k.stack ≡ k.stack
+none_thinned k h = all_left (active_in k.maps) k.stack (away k h)
+
+-- nor among the marked ones
+none_counted : (k : Kernel) → Standing k → length (left_by k.maps (take k.stack_mark k.stack)) ≡ k.stack_mark
+none_counted k h = ap length (all_left (active_in k.maps) (take k.stack_mark k.stack) (λ j q. away k h j (whole j q))) ∙ length-take-le k.stack_mark k.stack h.within
+  where
+    whole : (j : ℕ) → list_any (names j) (take k.stack_mark k.stack) ≡ true → list_any (names j) k.stack ≡ true
+    whole j q = ap (list_any (names j)) (sym (take-append-drop k.stack_mark k.stack)) ∙ (list_any-append (names j) (take k.stack_mark k.stack) (drop k.stack_mark k.stack) ∙ or_left _ _ q)
 
 pub standing_thinned : (k : Kernel) → Standing k → thinned k ≡ k
-standing_thinned k h = ap (λ (s : List Entry). record k { stack = s }) (none_thinned k h)
+standing_thinned k h = ap₂ {C = Kernel} (λ (s : List Entry) (m : ℕ). record k { stack = s; stack_mark = m }) (none_thinned k h) (none_counted k h)
+
+-- an entry that stands in the first part of a list
+front_at : {X : Type 0} (xs ys : List X) (i : ℕ) (x : X) → i < length xs → slice_get (xs ++ ys) i ≡ Some x → slice_get xs i ≡ Some x
+front_at [] ys i x l e = absurd (omega (arith, l))
+front_at (y ∷ xs) ys zero x l e = e
+front_at (y ∷ xs) ys (suc i) x l e = front_at xs ys i x (omega (arith, l)) e
+
+-- and one that stands behind it
+back_at : {X : Type 0} (xs ys : List X) (i : ℕ) (x : X) → length xs ≤ i → slice_get (xs ++ ys) i ≡ Some x → (j : ℕ) × (slice_get ys j ≡ Some x)
+back_at [] ys i x l e = (i, e)
+back_at (y ∷ xs) ys zero x l e = absurd (omega (arith, l))
+back_at (y ∷ xs) ys (suc i) x l e = back_at xs ys i x (omega (arith, l)) e
+
+-- where no entry names a variable, tests pass alike that differ at its entries alone
+pass_alike : (p q : Entry → Bool) (s : List Entry) (k : ℕ) → ((e : Entry) → names k e ≡ false → q e ≡ p e) → list_any (names k) s ≡ false → filter q s ≡ filter p s
+pass_alike p q [] k h n = refl
+pass_alike p q (e ∷ s) k h n =
+    let a : (names k e ≡ false) × (list_any (names k) s ≡ false) = or_parts _ _ n in
+    ap (λ b. cond b (e ∷ filter q s) (filter q s)) (h e a.0) ∙ ap (λ z. cond (p e) (e ∷ z) z) (pass_alike p q s k h a.1)
+
+-- one variable more passes, and of the first entries one less is left where its entry is among them
+count_more : (p q : Entry → Bool) (s : List Entry) (m at : ℕ) (x : Entry) → ((k : ℕ) → times_named k s ≤ 1) → ((e : Entry) → names (named x) e ≡ false → q e ≡ p e) → q x ≡ false → slice_get (filter p s) at ≡ Some x
+    → length (filter q (take m s)) ≡ left_of at (length (filter p (take m s)))
+count_more p q s m at x c h g f = go (nat_lt at (length (filter p (take m s)))) refl
+  where
+    both : (k : ℕ) → times_named k (take m s) + times_named k (drop m s) ≤ 1
+    both k =
+        let a : times_named k (take m s ++ drop m s) ≡ times_named k (take m s) + times_named k (drop m s) = times_named-append k (take m s) (drop m s) in
+        let b : times_named k (take m s ++ drop m s) ≡ times_named k s = ap (times_named k) (take-append-drop m s) in
+        let d : times_named k s ≤ 1 = c k in
+        omega (arith, a, b, d)
+
+    front_once : (k : ℕ) → times_named k (take m s) ≤ 1
+    front_once k = let a : times_named k (take m s) + times_named k (drop m s) ≤ 1 = both k in omega (arith, a)
+
+    found : slice_get (filter p (take m s) ++ filter p (drop m s)) at ≡ Some x
+    found = ap (λ z. slice_get z at) (sym (left_parts p s m)) ∙ f
+
+    go : (b : Bool) → nat_lt at (length (filter p (take m s))) ≡ b → length (filter q (take m s)) ≡ cond b (length (filter p (take m s)) - 1) (length (filter p (take m s)))
+    go true e =
+        let l : at < length (filter p (take m s)) = ltb-true _ _ e in
+        let a : length (filter q (take m s)) ≡ length (remove (filter p (take m s)) at) = ap length (left_more p q (take m s) at x front_once h g (front_at (filter p (take m s)) (filter p (drop m s)) at x l found)) in
+        let b : length (remove (filter p (take m s)) at) + 1 ≡ length (filter p (take m s)) = length-remove (filter p (take m s)) at l in
+        omega (arith, a, b)
+    go false e =
+        let (j, t) = back_at (filter p (take m s)) (filter p (drop m s)) at x (ltb-false _ _ e) found in
+        let (i, u) = left_from p (drop m s) j x t in
+        let a : 1 ≤ times_named (named x) (drop m s) = times_any (named x) (drop m s) (any_get (names (named x)) (drop m s) i x u (eq-eqb (named x) (named x) refl)) in
+        let b : times_named (named x) (take m s) + times_named (named x) (drop m s) ≤ 1 = both (named x) in
+        let d : times_named (named x) (take m s) ≡ 0 = omega (arith, a, b) in
+        ap length (pass_alike p q (take m s) (named x) h (unnamed (named x) (take m s) d))
 
 -- the entries name a variable once at most
 pub named_once : (s : List Entry) → IsInOrder s → (j : ℕ) → times_named j s ≤ 1
@@ -104,6 +180,12 @@ module _ (k : Kernel) (v : Own) (o : IsInOrder k.stack) (h : Standing (thinned k
         left_more (stays (active_in k.maps)) (stays (active_in n)) k.stack at (Gone v cs) (named_once k.stack o)
         (λ e q. ap (λ b. not (is_gone e && b)) (others_alike (named e) q)) (ap (λ b. not (true && b)) now_active) r.restorable.entry
 
+    -- also where it is marked
+    now_counted : length (left_by n (take k.stack_mark k.stack)) ≡ left_of at (length (left_by k.maps (take k.stack_mark k.stack)))
+    now_counted =
+        count_more (stays (active_in k.maps)) (stays (active_in n)) k.stack k.stack_mark at (Gone v cs) (named_once k.stack o)
+        (λ e q. ap (λ b. not (is_gone e && b)) (others_alike (named e) q)) (ap (λ b. not (true && b)) now_active) r.restorable.entry
+
     abbrev after : State
     after = restored at v cs (state_of (thinned k))
 
@@ -144,6 +226,7 @@ module _ (k : Kernel) (v : Own) (o : IsInOrder k.stack) (h : Standing (thinned k
           inner = b.inner;
           maps = b.maps;
           stack = now_left n b.inner b.maps;
+          stack_mark = now_counted n b.inner b.maps;
           okay = refl;
           extends = b.holds.extends;
           become = b.holds.become ∙ ap (map hard_clause) (ap (λ z. put_in_all (root (left_by n k.stack)) z) clauses_are ∙ come_to n b.inner b.maps);
@@ -156,10 +239,11 @@ module _ (k : Kernel) (v : Own) (o : IsInOrder k.stack) (h : Standing (thinned k
     back_stands = restored-Standing (thinned k) (thinned (record k { maps = n; store = t })) at v cs b.holds.fresh done r.restorable h
 
 -- a refusal leaves the state as it was
-pub refused_state : (k : Kernel) (n : Maps) (t : Store) → SayTheSame k.maps n → t.held ≡ k.store.held → state_of (thinned (record k { maps = n; store = t })) ≡ state_of (thinned k)
-refused_state k n t s e =
-    ap (λ (x : List Entry). state_of (record k { maps = n; store = t; stack = x })) (ap (λ (z : List (Option Inner)). filter (stays (λ j. is_some (get_or z j None))) k.stack) s.inners)
-    ∙ same_state (thinned k) n t s e
+pub refused_state : (k : Kernel) (n : Maps) (t : Store) → SayTheSame k.maps n → t.held ≡ k.store.held → t.mark ≡ k.store.mark → state_of (thinned (record k { maps = n; store = t })) ≡ state_of (thinned k)
+refused_state k n t s e m =
+    ap (λ (p : Entry → Bool). state_of (record k { maps = n; store = t; stack = filter p k.stack; stack_mark = length (filter p (take k.stack_mark k.stack)) })) (ap (λ (z : List (Option Inner)). stays (λ j. is_some (get_or z j None))) s.inners)
+    ∙ same_state (thinned k) n t s e m
 
-pub refused_stands : (k : Kernel) (n : Maps) (t : Store) → SayTheSame k.maps n → t.held ≡ k.store.held → Standing (thinned k) → Standing (thinned (record k { maps = n; store = t }))
-refused_stands k n t s e h = same_state-Standing (thinned k) (thinned (record k { maps = n; store = t })) (refused_state k n t s e) s.outers s.outer_numbers h
+pub refused_stands : (k : Kernel) (n : Maps) (t : Store) → SayTheSame k.maps n → t.held ≡ k.store.held → t.mark ≡ k.store.mark → Standing (thinned k) → Standing (thinned (record k { maps = n; store = t }))
+refused_stands k n t s e m h =
+    same_state-Standing (thinned k) (thinned (record k { maps = n; store = t })) (refused_state k n t s e m) s.outers s.outer_numbers (thinned_within (record k { maps = n; store = t })) h

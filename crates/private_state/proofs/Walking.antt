@@ -60,14 +60,14 @@ module _ (vars : List Own) (i : ℕ) (d : Own) (s : State) (k : Kernel) (l : i <
         can = can.1 (state_of (thinned (record k { maps = n; store = t }))) r;
       }
 
-  pub stopped : (n : Maps) (t : Store) (r : Result (Unit {0}) NoMemory) → true ≡ is_err r → OnErr r (SayTheSame k.maps n) → OnErr r (t.held ≡ k.store.held) → AreOver vars s (record k { maps = n; store = t }) r
-  stopped n t (Ok u) e m g = cc
-  stopped n t (Err x) e m g =
+  pub stopped : (n : Maps) (t : Store) (r : Result (Unit {0}) NoMemory) → true ≡ is_err r → OnErr r (SayTheSame k.maps n) → OnErr r (t.held ≡ k.store.held) → t.mark ≡ k.store.mark → AreOver vars s (record k { maps = n; store = t }) r
+  stopped n t (Ok u) e m g f = cc
+  stopped n t (Err x) e m g f =
       record {
-        standing = refused_stands k n t m g w.standing;
+        standing = refused_stands k n t m g f w.standing;
         order = w.order;
         ok = tt;
-        err = record { count = i; few = l; moves = subst (λ (z : State). AreRestored (take i vars) s z) (sym (refused_state k n t m g)) w.moves };
+        err = record { count = i; few = l; moves = subst (λ (z : State). AreRestored (take i vars) s z) (sym (refused_state k n t m g f)) w.moves };
       }
 
 -- none is left

@@ -59,3 +59,4 @@ pub record Holds (k n : Kernel) (entry : Shared) (lits : List InLit) (id : ℕ) 
   pub held : n.store.held ≡ k.store.held ++ held_as id false lits ∷ []
   pub fresh : k.store.given ≤ id
   pub given : id < n.store.given
+  pub mark : n.store.mark ≡ k.store.mark

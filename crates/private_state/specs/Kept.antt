@@ -12,6 +12,7 @@ kernel_of p = record {
   store = p.store;
   stack = p.removed.entries;
   okay = p.okay;
+  stack_mark = p.stack_mark;
 }
 
 -- the state stands, and what became of each variable is kept

@@ -1,13 +1,14 @@
 -- What a kernel that stands lets its moves do.
-use Rattle.std.proofs.Common.{◌≡◌, ℕ, ◌+◌, ◌<◌, ◌≤◌, true, false, cond, List, ◌++◌, Option, Some, None, refl, sym, ap, ap₂, subst, ◌∙◌, arith, length, map, is_some, option_map, option_to_list, take, drop, append-nil, drop_of_length-le, take_all}
+use Rattle.std.proofs.Common.{◌≡◌, ℕ, ◌+◌, ◌<◌, ◌≤◌, true, false, cond, List, ◌++◌, Option, Some, None, refl, sym, ap, ap₂, subst, ◌∙◌, arith, length, map, nat_lt, is_some, option_map, option_to_list, take, drop, append-nil, drop_of_length-le, take_all}
 use Rattle.std.specs.List.{list_all, list_any}
-use Rattle.sat_lits.specs.ListLaws.{all_mono}
+use Rattle.sat_lits.specs.ListLaws.{all_mono, filter_all}
 use Rattle.sat_lits.specs.declared.literal.OwnLit.{OwnLit}
 use Rattle.sat_lits.specs.declared.literal.InLit.{InLit}
 use Rattle.rebuild_stack.specs.Entries.{names, times_named}
 use Rattle.rebuild_stack.specs.OrderLaws.{unnamed}
 use Rattle.rebuild_stack.specs.declared.entry.Entry.{Entry}
-use Rattle.clause_store.specs.Store.{Store, hard_of, learned_of}
+use Rattle.clause_store.specs.Store.{Store, Held, IsKept, hard_of, learned_of, contents, marked}
+use Rattle.clause_store.specs.Laws.{learned_of-contents}
 use Rattle.var_maps.specs.Maps.{Maps, plain}
 use Rattle.state_laws.specs.declared.definition.Definition.{Definition}
 use Rattle.state_laws.specs.State.{State, is_active}
@@ -24,10 +25,10 @@ pub plain-Standing : (k n : Kernel) → plain_kernel n ≡ plain_kernel k → St
 plain-Standing k n e h = out (subst (λ (z : Kernel). Standing z) (sym e) into)
   where
     into : Standing (plain_kernel k)
-    into = record { stands = h.stands; outers = h.outers; private = h.private }
+    into = record { stands = h.stands; outers = h.outers; private = h.private; within = h.within }
 
     out : Standing (plain_kernel n) → Standing n
-    out p = record { stands = p.stands; outers = p.outers; private = p.private }
+    out p = record { stands = p.stands; outers = p.outers; private = p.private; within = p.within }
 
 -- the entries of a kernel that stands are in order
 pub in_order : (k : Kernel) → Standing k → IsInOrder k.stack
@@ -48,16 +49,25 @@ active_there k v h a =
     omega arith
 
 -- the store and the stack are as before
-pub rolled_kernel : (k : Kernel) (s : Store) (entries : List Entry) → s.held ≡ k.store.held → entries ≡ k.stack → plain_kernel (record k { store = s; stack = entries }) ≡ plain_kernel k
-rolled_kernel k s entries e f = rw (e, f) refl
+pub rolled_kernel : (k : Kernel) (s : Store) (entries : List Entry) → s.held ≡ k.store.held → s.mark ≡ k.store.mark → entries ≡ k.stack → plain_kernel (record k { store = s; stack = entries }) ≡ plain_kernel k
+rolled_kernel k s entries e m f = rw (e, m, f) refl
 
--- clauses that are the same under other ids are the same in own literals
-pub renumbered : (k : Kernel) (s : Store) → hard_of s.held ≡ hard_of k.store.held → learned_of s.held ≡ learned_of k.store.held → state_of (record k { store = s }) ≡ state_of k
-renumbered k s h l = ap₂ {C = State} (λ (x y : List (List InLit)). record (state_of k) { hard = own_clauses k.maps x; learned = own_clauses k.maps y }) h l
+-- clauses that are the same under other ids, with the same marked ones, are the same in own literals
+pub renumbered : (k : Kernel) (s : Store) → hard_of s.held ≡ hard_of k.store.held → learned_of s.held ≡ learned_of k.store.held → contents (marked s) ≡ contents (marked k.store) → state_of (record k { store = s }) ≡ state_of k
+renumbered k s h l m =
+    ap (λ (x : List (List InLit)). record (state_of (record k { store = s })) { marked_learned = own_clauses k.maps x }) (learned_of-contents (marked s) (marked k.store) m)
+    ∙ ap₂ {C = State} (λ (x y : List (List InLit)). record (state_of k) { hard = own_clauses k.maps x; learned = own_clauses k.maps y }) h l
 
 -- and the kernel stands
-pub renumbered-Standing : (k : Kernel) (s : Store) → hard_of s.held ≡ hard_of k.store.held → learned_of s.held ≡ learned_of k.store.held → Standing k → Standing (record k { store = s })
-renumbered-Standing k s h l t = record { stands = subst (λ (z : State). Stands z) (sym (renumbered k s h l)) t.stands; outers = t.outers; private = t.private }
+pub renumbered-Standing : (k : Kernel) (s : Store) → hard_of s.held ≡ hard_of k.store.held → learned_of s.held ≡ learned_of k.store.held → contents (marked s) ≡ contents (marked k.store) → Standing k → Standing (record k { store = s })
+renumbered-Standing k s h l m t = record { stands = subst (λ (z : State). Stands z) (sym (renumbered k s h l m)) t.stands; outers = t.outers; private = t.private; within = t.within }
+
+-- all that is there is marked
+pub marking_state : (k : Kernel) (s : Store) (n : ℕ) → s ≡ record k.store { mark = k.store.given } → n ≡ length k.stack → IsKept k.store → state_of (record k { store = s; stack_mark = n }) ≡ record (state_of k) { marked_learned = (state_of k).learned; marked_stack = k.stack }
+marking_state k s n e l h =
+    ap₂ {C = State} (λ (t : Store) (m : ℕ). state_of (record k { store = t; stack_mark = m })) e l
+    ∙ ap₂ {C = State} (λ (hs : List Held) (es : List Entry). record (state_of k) { marked_learned = own_clauses k.maps (learned_of hs); marked_stack = es }) (filter_all (λ c. nat_lt c.id k.store.given) k.store.held h.below)
+    (take_all (length k.stack) k.stack (omega arith))
 
 -- active literals have inner numbers
 pub active_inner : (k : Kernel) (c : List OwnLit) → list_all (λ l. is_active (state_of k) l.var.0) c ≡ true → list_all (has_inner k.maps) c ≡ true

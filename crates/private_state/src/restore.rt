@@ -40,6 +40,7 @@ fn bring_back(
     ensures ok { OnOk result (ComesBack var removed.now.entries maps.old maps.new store.old store.new) }
     ensures err { OnErr result (SayTheSame maps.old maps.new) }
     ensures held { OnErr result (store.new.held ≡ store.old.held) }
+    ensures mark { store.new.mark ≡ store.old.mark }
 {
     let block = block_of(removed, var);
     maps.revive(var)?;
@@ -70,6 +71,7 @@ impl PrivateState {
             &self.removed,
             var,
         )?;
+        self.stack_mark = self.removed.count_left(&self.maps, self.stack_mark);
         self.removed.take_out_active(&self.maps);
         Ok(())
     }
@@ -96,6 +98,7 @@ impl PrivateState {
             }
         }
         // After a refusal too: what came back is out of the stack.
+        self.stack_mark = self.removed.count_left(&self.maps, self.stack_mark);
         self.removed.take_out_active(&self.maps);
         done
     }

@@ -1,12 +1,13 @@
-ghost use Rattle.std.specs.Prelude.{◌≡◌, ◌+◌, ◌-◌, ◌≤◌, ◌^◌, ◌∷◌, ◌++◌, [], Some, length, sum_by, true, false, IsTrue, IfOk, OnOk, OnErr};
+ghost use Rattle.std.specs.Prelude.{◌≡◌, ◌+◌, ◌-◌, ◌≤◌, ◌^◌, ◌∷◌, ◌++◌, [], Some, length, filter, drop, sum_by, true, false, IsTrue, IfOk, OnOk, OnErr};
 ghost use Rattle.std.specs.List.{list_any};
 ghost use Rattle.sat_lits.specs.Truth.{clauses_value};
 ghost use Rattle.sat_lits.specs.Meaning.{IsModel};
 ghost use Rattle.rebuild_stack.specs.Entries.{named, is_block_of};
 ghost use Rattle.rebuild_stack.specs.Roots.{root};
 ghost use Rattle.rebuild_stack.specs.declared.entry.Entry.TheVariants.{Fix, Equal};
-ghost use Rattle.clause_store.specs.Store.{IsKept, contents, hard_of, held_as, without};
-ghost use Rattle.indexed_store.specs.Occurrences.{clauses_at, occurrences};
+ghost use Rattle.clause_store.specs.Store.{IsKept, contents, marked, hard_of, held_as, without};
+ghost use Rattle.indexed_store.specs.Occurrences.{clauses_at, occurrences, is_pair};
+ghost use Rattle.indexed_store.specs.Lists.{ids_rise};
 ghost use Rattle.var_maps.specs.Maps.{plain, retired};
 ghost use Rattle.state_laws.specs.State.{is_active, outer_count, problem_of};
 ghost use Rattle.state_laws.specs.Conditions.{IsContradicted, EntryFollows, Pushable, Takable, Learnable};
@@ -48,6 +49,8 @@ pub struct PrivateState {
     pub(crate) store: IndexedStore,
     pub(crate) removed: RemovedVars,
     okay: bool,
+    // How many of the oldest entries of the stack stood there at the last mark.
+    pub(crate) stack_mark: usize,
 }
 
 impl Model for PrivateState {
@@ -76,6 +79,7 @@ impl PrivateState {
             store: IndexedStore::new(alloc),
             removed: RemovedVars::new(alloc),
             okay: true,
+            stack_mark: 0,
         }
     }
 
@@ -165,6 +169,36 @@ impl PrivateState {
         ensures { result.now ≡ self.now.stack }
     {
         self.removed.stack()
+    }
+
+    /// The ids of the learned clauses of two literals, in order of addition. Among them may be ids
+    /// that are not live.
+    pub fn pairs(&self) -> &[ShortId]
+        ensures value { clauses_at self.now.store.held result.now ≡ filter is_pair self.now.store.held }
+        ensures rises { ids_rise result.now ≡ true }
+        ensures kept { IsKept self.now.store }
+    {
+        self.store.pairs()
+    }
+
+    /// The entries of the stack that came after the last mark, or all where there was none.
+    pub fn new_entries(&self) -> &[Entry]
+        ensures { result.now ≡ drop self.now.stack_mark self.now.stack }
+    {
+        &self.removed.stack().entries()[self.stack_mark..]
+    }
+
+    /// Marks all that is there: the clauses that are held, and the entries of the stack. Which are
+    /// new since then is known until the next mark: the clauses whose ids are from `mark` of the
+    /// clauses on, and `new_entries`.
+    pub fn set_mark(&mut self)
+        ensures value { self.new ≡ record self.old { store = record self.old.store { mark = self.old.store.given }; stack_mark = length self.old.stack } }
+        ensures state { state_of self.new ≡ record (state_of self.old) { marked_learned = (state_of self.old).learned; marked_stack = self.old.stack } }
+    {
+        // What the store keeps is known from here on.
+        let _clauses = self.store.store();
+        self.store.set_mark();
+        self.stack_mark = self.removed.stack().entries().len();
     }
 
     /// Adds outer variables, active, until there are `vars`; with fewer it changes nothing. The
@@ -292,6 +326,7 @@ impl PrivateState {
         ensures ok { OnOk result (state_of self.new ≡ learning (own_clause self.old.maps lits.now) (state_of self.old)) }
         ensures held { IfOk result (λ id. self.new.store.held ≡ self.old.store.held ++ held_as id.0 true lits.now ∷ []) }
         ensures fresh { IfOk result (λ id. self.old.store.given ≤ id.0) }
+        ensures marked { marked self.new.store ≡ marked self.old.store }
         ensures same { self.new ≡ record self.old { store = self.new.store } }
         ensures err { OnErr result (self.new ≡ self.old) }
     {
@@ -372,6 +407,7 @@ impl PrivateState {
     pub fn compact(&mut self)
         ensures same { self.new ≡ record self.old { store = self.new.store } }
         ensures clauses { contents self.new.store.held ≡ contents self.old.store.held }
+        ensures marked { contents (marked self.new.store) ≡ contents (marked self.old.store) }
         ensures state { state_of self.new ≡ state_of self.old }
         ensures given { self.new.store.given ≡ sum_by (λ clause. length clause.lits + 1) self.old.store.held }
     {

@@ -56,7 +56,7 @@ pub dropping : (s : Store) (ids : List ClauseId) (k : ℕ) (d : ClauseId) → k 
     → without_ids (numbers (take (k + 1) ids)) s ≡ record (without_ids (numbers (take k ids)) s) { held = without (get_or ids k d).0 (without_ids (numbers (take k ids)) s).held }
 dropping s ids k d l =
     ap (λ (ns : List ℕ). without_ids ns s) (ap numbers (taken_at ids k d l) ∙ map-append (λ (i : ClauseId). i.0) (take k ids) (get_or ids k d ∷ []))
-    ∙ ap (λ (hs : List Held). let t : Store = record { held = hs; given = s.given } in t) (without_more (numbers (take k ids)) (get_or ids k d).0 s.held)
+    ∙ ap (λ (hs : List Held). let t : Store = record { held = hs; given = s.given; mark = s.mark } in t) (without_more (numbers (take k ids)) (get_or ids k d).0 s.held)
 
 -- what is put in is active
 pub put_active : (m : Maps) (r : OwnLit → Root) (lits : List OwnLit) (c : List OwnLit) → list_all (λ l. root_passes (has_inner m) (r l)) lits ≡ true → Some c ≡ put_in r lits → list_all (has_inner m) c ≡ true

@@ -72,6 +72,7 @@ pub fn add_all(
     requires distinct { are_distinct fresh.now ≡ true }
     ensures ok { IfOk result (λ ids. Adds store.old store.new ids.items (in_clauses fresh.now)) }
     ensures err { OnErr result (store.new.held ≡ store.old.held) }
+    ensures mark { store.new.mark ≡ store.old.mark }
 {
     let mut ids = Vec::new(alloc);
     if let Err(error) = add_some(store, fresh, &mut ids) {

@@ -1,4 +1,4 @@
-ghost use Rattle.std.specs.Prelude.{◌≡◌, ℕ, ◌+◌, ◌<◌, ◌∷◌, ◌++◌, ◌↔◌, [], false, Some, slice_index_or, IsNone, IfSome, OnOk, OnErr};
+ghost use Rattle.std.specs.Prelude.{◌≡◌, ℕ, ◌+◌, ◌<◌, ◌∷◌, ◌++◌, ◌↔◌, [], false, Some, length, take, slice_index_or, IsNone, IfSome, OnOk, OnErr};
 ghost use Rattle.std.specs.List.{list_any};
 ghost use Rattle.sat_lits.specs.Truth.{signed};
 ghost use Rattle.rebuild_stack.specs.Entries.{named, names, is_block_of};
@@ -79,6 +79,13 @@ fn stays(maps: &VarMaps, entry: &Entry) -> bool
     }
 }
 
+/// How many entries stay where the `Gone` entries of active variables go.
+fn count_staying(entries: &[Entry], maps: &VarMaps) -> usize
+    ensures { result ≡ length (left_by maps.now entries.now) }
+{
+    entries.iter().filter(|entry| stays(maps, entry)).count()
+}
+
 /// Says of the variable of an entry that goes that no entry names it.
 fn forget(statuses: &mut [Status], entry: &Entry, maps: &VarMaps)
     ensures { (k : ℕ) → slice_index_or statuses.new k Status.Kept ≡ status_without (active_in maps.now) k (entry.now ∷ []) (slice_index_or statuses.old k Status.Kept) }
@@ -142,6 +149,15 @@ impl RemovedVars {
         }
         self.statuses[var.0 as usize] = status;
         Ok(())
+    }
+
+    /// How many of the oldest `count` entries `take_out_active` leaves.
+    pub fn count_left(&self, maps: &VarMaps, count: usize) -> usize
+        ensures { result ≡ length (left_by maps.now (take count self.now.entries)) }
+    {
+        let entries = self.stack.entries();
+        let end = count.min(entries.len());
+        count_staying(&entries[..end], maps)
     }
 
     /// Takes out each `Gone` entry whose variable is active. The others close up. It takes no memory,

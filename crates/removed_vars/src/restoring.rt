@@ -112,6 +112,7 @@ fn hold_all(
     requires clean { list_all is_clean clauses.now ≡ true }
     ensures ok { OnOk result (Holds maps.now store.old store.new clauses.now) }
     ensures err { OnErr result (store.new.held ≡ store.old.held) }
+    ensures mark { store.new.mark ≡ store.old.mark }
 {
     let fresh = hard_fresh(alloc, maps, clauses)?;
     // What the store keeps is known from here on.
@@ -134,6 +135,7 @@ pub fn hold_block(
     requires active { each_lit (has_inner maps.now) (put_in_all (root (left_by maps.now removed.now.entries)) block.now) ≡ true }
     ensures ok { OnOk result (Holds maps.now store.old store.new (put_in_all (root (left_by maps.now removed.now.entries)) block.now)) }
     ensures err { OnErr result (store.new.held ≡ store.old.held) }
+    ensures mark { store.new.mark ≡ store.old.mark }
 {
     let clauses = put_in_block(alloc, removed, maps, block)?;
     hold_all(alloc, maps, store, &clauses)

@@ -112,7 +112,7 @@ count_exact k n w lits id s m h a b =
 -- nothing was learned
 pub learned_none : (k n : Kernel) → n ≡ k → HasLearned k n 0
 learned_none k n e = subst (λ (z : Kernel). HasLearned k z 0) (sym e)
-    (record { news = []; same = refl; held = sym (append-nil k.store.held); hard = refl; learned = sym (append-nil _); new = refl; counted = refl })
+    (record { news = []; same = refl; held = sym (append-nil k.store.held); hard = refl; learned = sym (append-nil _); new = refl; counted = refl; marked = refl })
 
 -- one clause was
 pub learned_one : (k n : Kernel) (w : Work) (lits : List InLit) (back id : ℕ) → AtMove k w → IsLearned k.store.held w.trail.steps lits back → HasAdded k n lits id → HasLearned k n 1
@@ -125,6 +125,7 @@ learned_one k n w lits back id m l a =
       learned = ap learned_of a.held ∙ learned_last k.store.held (held_as id true lits) refl;
       new = and_from _ _ (learned_new k.store.held w.trail.steps lits back m.searching.sound m.searching.quiet l) refl;
       counted = refl;
+      marked = a.marked;
     }
 
 -- the search after a conflict

@@ -58,6 +58,7 @@ learned_both k m n a b f s =
           ∙ ap (λ (z : List (List InLit)). learned_of k.store.held ++ z) (sym (map-append (λ (c : Held). c.lits) f.news s.news))));
       new = each_new-append k.store.held f.news s.news f.new (subst (λ (z : List Held). each_new z s.news ≡ true) f.held s.new);
       counted = length-append f.news s.news ∙ (ap (λ (x : ℕ). x + length s.news) f.counted ∙ ap (λ (x : ℕ). a + x) s.counted);
+      marked = s.marked ∙ f.marked;
     }
 
 -- the maps stay

@@ -12,7 +12,7 @@ use Rattle.sat_lits.specs.declared.literal.ClauseId.{ClauseId}
 use Rattle.rebuild_stack.specs.Roots.{root_passes}
 use Rattle.rebuild_stack.specs.PutIn.{put_in}
 use Rattle.rebuild_stack.specs.declared.entry.Root.{Root}
-use Rattle.clause_store.specs.Store.{Store, Held}
+use Rattle.clause_store.specs.Store.{Store, Held, marked}
 use Rattle.var_maps.specs.Maps.{Maps, inner_at, owner_at}
 use Rattle.state_laws.specs.Resolution.{mentions}
 
@@ -97,7 +97,7 @@ pub record Collected (m : Maps) (r : OwnLit → Root) (v : ℕ) (held : List Hel
   pub doomed : ids ≡ map (λ h. h.id) (filter (touches m v) held)
   pub become : map (in_own m) fresh ≡ put_each r (map (λ h. in_own m (strip h)) (filter (touches m v) held))
 
--- clauses were added behind those of the store, under these new ids
+-- clauses were added behind those of the store, under these new ids, and none is marked
 pub record Adds (s t : Store) (ids : List ClauseId) (clauses : List InClause) : Type 0 where
   pub news : List Held
   pub held : t.held ≡ s.held ++ news
@@ -105,13 +105,17 @@ pub record Adds (s t : Store) (ids : List ClauseId) (clauses : List InClause) : 
   pub contents : map strip news ≡ clauses
   pub fresh : list_all (λ h. nat_le s.given h.id) news ≡ true
   pub given : s.given ≤ t.given
+  pub mark : t.mark ≡ s.mark
+  pub marked : marked t ≡ marked s
 
--- clauses were added behind those of the store, under new ids
+-- clauses were added behind those of the store, under new ids, and none is marked
 pub record ExtendsBy (s t : Store) (clauses : List InClause) : Type 0 where
   pub news : List Held
   pub held : t.held ≡ s.held ++ news
   pub contents : map strip news ≡ clauses
   pub fresh : list_all (λ h. nat_le s.given h.id) news ≡ true
+  pub mark : t.mark ≡ s.mark
+  pub marked : marked t ≡ marked s
 
 -- the value that inner values give an inner number, false where there is none
 abbrev pub inner_value : List Bool → Option Inner → Bool

@@ -7,7 +7,7 @@ use Rattle.std.proofs.lemmas.List.Elements.{filter-append}
 use Rattle.std.specs.List.{list_all}
 use Rattle.sat_lits.specs.ListLaws.{all_mono, all_push, filter_all}
 use Rattle.sat_lits.specs.declared.literal.ClauseId.{ClauseId}
-use Rattle.clause_store.specs.Store.{Store, Held, IsKept, held_as, clause_at, is_live, without, rising}
+use Rattle.clause_store.specs.Store.{Store, Held, IsKept, held_as, clause_at, is_live, without, rising, marked}
 use Rattle.state_laws.specs.Held.{InClause, strip, numbers, has_id_among, Adds, ExtendsBy}
 
 -- where no element passes, the filter leaves nothing
@@ -138,12 +138,12 @@ le_leb x y l = grind arith
 
 -- no clause was added yet
 pub adds_none : (s : Store) → Adds s s [] []
-adds_none s = record { news = []; held = sym (append-nil s.held); numbered = refl; contents = refl; fresh = refl; given = omega arith }
+adds_none s = record { news = []; held = sym (append-nil s.held); numbered = refl; contents = refl; fresh = refl; given = omega arith; mark = refl; marked = refl }
 
 -- one clause more is added
-pub adds_more : (s t u : Store) (ids ids2 : List ClauseId) (cs cs2 : List InClause) (id : ClauseId) (c : InClause) → t.given ≤ id.0 → id.0 < u.given → u.held ≡ t.held ++ held_as id.0 c.learned c.lits ∷ []
+pub adds_more : (s t u : Store) (ids ids2 : List ClauseId) (cs cs2 : List InClause) (id : ClauseId) (c : InClause) → t.given ≤ id.0 → id.0 < u.given → u.held ≡ t.held ++ held_as id.0 c.learned c.lits ∷ [] → u.mark ≡ t.mark → marked u ≡ marked t
     → ids2 ≡ ids ++ id ∷ [] → cs2 ≡ cs ++ c ∷ [] → Adds s t ids cs → Adds s u ids2 cs2
-adds_more s t u ids ids2 cs cs2 id c l m h e f a =
+adds_more s t u ids ids2 cs cs2 id c l m h x y e f a =
     record {
       news = a.news ++ held_as id.0 c.learned c.lits ∷ [];
       held = h ∙ (ap (λ z. z ++ held_as id.0 c.learned c.lits ∷ []) a.held ∙ append_assoc s.held a.news (held_as id.0 c.learned c.lits ∷ []));
@@ -151,11 +151,13 @@ adds_more s t u ids ids2 cs cs2 id c l m h e f a =
       contents = map-append strip a.news (held_as id.0 c.learned c.lits ∷ []) ∙ (ap (λ z. z ++ c ∷ []) a.contents ∙ sym f);
       fresh = all_push (λ (h : Held). leb s.given h.id) a.news (held_as id.0 c.learned c.lits) a.fresh (le_leb s.given id.0 (omega (arith, a.given, l)));
       given = omega (arith, a.given, l, m);
+      mark = x ∙ a.mark;
+      marked = y ∙ a.marked;
     }
 
 -- what was added extends the store
 pub Adds-ExtendsBy : (s t : Store) (ids : List ClauseId) (cs : List InClause) → Adds s t ids cs → ExtendsBy s t cs
-Adds-ExtendsBy s t ids cs a = record { news = a.news; held = a.held; contents = a.contents; fresh = a.fresh }
+Adds-ExtendsBy s t ids cs a = record { news = a.news; held = a.held; contents = a.contents; fresh = a.fresh; mark = a.mark; marked = a.marked }
 
 -- the old clauses are left where the new ones are dropped again
 pub rolled_back : (s t : Store) (ids : List ClauseId) (cs : List InClause) → IsKept s → Adds s t ids cs → filter (λ h. not (has_id_among (numbers ids) h)) t.held ≡ s.held

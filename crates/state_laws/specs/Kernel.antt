@@ -1,5 +1,5 @@
 -- What all parts of a private state tell, and what they must keep.
-use Rattle.std.specs.Prelude.{◌≡◌, ◌≤◌, ℕ, Bool, true, false, not, List, [], ◌∷◌, ◌++◌, map, filter, option_map, Some, is_some, nat_le}
+use Rattle.std.specs.Prelude.{◌≡◌, ◌≤◌, ℕ, Bool, true, false, not, List, [], ◌∷◌, ◌++◌, map, filter, option_map, Some, is_some, nat_le, length, take}
 use Rattle.std.specs.declared.option.Option.{Option}
 use Rattle.std.specs.List.{list_all}
 use Rattle.sat_lits.specs.Truth.{clauses_value}
@@ -9,14 +9,14 @@ use Rattle.sat_lits.specs.declared.formula.Item.{Item}
 use Rattle.sat_lits.specs.declared.shared.Shared.{Shared}
 use Rattle.rebuild_stack.specs.Values.{own_value}
 use Rattle.rebuild_stack.specs.declared.entry.Entry.{Entry}
-use Rattle.clause_store.specs.Store.{Store, Held, held_as, hard_of, learned_of, clause_at, without}
+use Rattle.clause_store.specs.Store.{Store, Held, held_as, hard_of, learned_of, clause_at, without, marked}
 use Rattle.var_maps.specs.Maps.{Maps, no_maps, plain}
 use Rattle.state_laws.specs.declared.definition.Definition.{Definition}
 use Rattle.state_laws.specs.State.{State, outers_from}
 use Rattle.state_laws.specs.Stands.{Stands}
 use Rattle.state_laws.specs.Held.{own_clause, own_clauses, touches}
 
--- the items and the shared entries taken, the definition of each own variable, the maps of its variables' numbers, the stored clauses, the stack of variables that left them, and whether the state is okay
+-- the items and the shared entries taken, the definition of each own variable, the maps of its variables' numbers, the stored clauses, the stack of variables that left them, whether the state is okay, and how many entries of the stack stood there at the last mark and still do
 pub record Kernel : Type 0 where
   pub items : List Item
   pub entries : List Shared
@@ -25,10 +25,11 @@ pub record Kernel : Type 0 where
   pub store : Store
   pub stack : List Entry
   pub okay : Bool
+  pub stack_mark : ℕ
 
 -- the kernel of a state that took nothing
 abbrev pub no_kernel : Kernel
-no_kernel = record { items = []; entries = []; definitions = []; maps = no_maps; store = record { held = []; given = 0 }; stack = []; okay = true }
+no_kernel = record { items = []; entries = []; definitions = []; maps = no_maps; store = record { held = []; given = 0; mark = 0 }; stack = []; okay = true; stack_mark = 0 }
 
 -- what a kernel is seen as in own literals
 abbrev pub state_of : Kernel → State
@@ -42,13 +43,16 @@ state_of k =
       stack = k.stack;
       active = map is_some k.maps.inners;
       okay = k.okay;
+      marked_learned = own_clauses k.maps (learned_of (marked k.store));
+      marked_stack = take k.stack_mark k.stack;
     }
 
--- the state stands, and the maps know the outer variables
+-- the state stands, the maps know the outer variables, and no more entries are marked than there are
 pub record Standing (k : Kernel) : Type 0 where
   pub stands : Stands (state_of k)
   pub outers : map (λ v. v.0) k.maps.outers ≡ outers_from 0 k.definitions
   pub private : map is_some k.definitions ≡ map (λ o. not (is_some o)) k.maps.outer_numbers
+  pub within : k.stack_mark ≤ length k.stack
 
 -- the kernel without the number above all ids given, and without what contracts see of room
 abbrev pub plain_kernel : Kernel → Kernel

@@ -1,19 +1,22 @@
 -- A kernel stands when an own variable is made.
-use Rattle.std.proofs.Common.{◌≡◌, ℕ, ◌+◌, Bool, true, false, not, List, [], ◌∷◌, ◌++◌, refl, sym, ap, ap₂, subst, ◌∙◌, arith, length, map, Option, Some, None, is_some, append-nil}
+use Rattle.std.proofs.Common.{◌≡◌, ℕ, ◌+◌, Bool, true, false, not, List, [], ◌∷◌, ◌++◌, refl, sym, ap, ap₂, subst, ◌∙◌, arith, length, map, Option, Some, None, is_some, append-nil, take}
 use Rattle.std.proofs.lemmas.List.{map-append, length-map}
+use Rattle.std.specs.List.{list_all}
 use Rattle.sat_lits.specs.declared.literal.Own.{Own}
 use Rattle.sat_lits.specs.declared.literal.Var.{Var}
-use Rattle.clause_store.specs.Store.{hard_of, learned_of}
+use Rattle.rebuild_stack.specs.declared.entry.Entry.{Entry}
+use Rattle.clause_store.specs.Store.{hard_of, learned_of, marked, Held}
 use Rattle.var_maps.specs.Maps.{Maps, Added}
 use Rattle.state_laws.specs.declared.definition.Definition.{Definition}
-use Rattle.state_laws.specs.State.{State, outers_from}
+use Rattle.state_laws.specs.State.{State, outers_from, is_active}
 use Rattle.state_laws.specs.Stands.{Stands}
 use Rattle.sat_lits.specs.declared.literal.OwnLit.{OwnLit}
 use Rattle.state_laws.specs.Moves.{extended}
 use Rattle.state_laws.specs.Conditions.{Defines}
-use Rattle.state_laws.specs.Held.{InClause, in_own, hard_clause, ExtendsBy}
+use Rattle.state_laws.specs.Held.{InClause, in_own, hard_clause, ExtendsBy, own_clauses}
 use Rattle.state_laws.specs.Kernel.{Kernel, state_of, Standing}
 use Rattle.state_laws.specs.ExtendLaws.{outers_from-append, extended-Stands}
+use Rattle.state_laws.specs.MarkLaws.{marked_pass}
 use Rattle.state_laws.specs.ViewLaws.{state_of_parts, clauses_of, clauses_of-append, listed, listed-hard, listed-none, news_of, numbered_view}
 
 -- the kernel with these maps and one outer variable more
@@ -29,6 +32,8 @@ grown_state k m v o a h =
     refl
     (ap (map is_some) a.inners ∙ map-append is_some k.maps.inners (Some a.inner ∷ []))
     refl
+    (sym (numbered_view k.maps m v a.inner a.numbered.free a.numbered.given (learned_of (marked k.store)) (marked_pass (list_all (λ (l : OwnLit). is_active (state_of k) l.var.0)) k.maps k.store h.places.placed.learned)))
+    refl
 
 -- and it stands
 pub grown-Standing : (k : Kernel) (m : Maps) (v : Own) (o : Var) → Added (Some o) v k.maps m → m.outers ≡ k.maps.outers ++ v ∷ [] → Standing k → Standing (with_outer m k)
@@ -40,6 +45,7 @@ grown-Standing k m v o a r h =
       private = map-append is_some k.definitions (None ∷ [])
           ∙ (ap (λ (z : List Bool). z ++ false ∷ []) h.private
           ∙ (sym (map-append (λ (x : Option Var). not (is_some x)) k.maps.outer_numbers (Some o ∷ [])) ∙ ap (map (λ (x : Option Var). not (is_some x))) (sym a.outer_numbers)));
+      within = h.within;
     }
   where
     number : v.0 ≡ 0 + length k.definitions
@@ -57,6 +63,7 @@ pub record PrivateMade (k n : Kernel) (v : Own) (d : Definition) (clauses : List
   pub maps : Added None v k.maps n.maps
   pub outers : n.maps.outers ≡ k.maps.outers
   pub stack : n.stack ≡ k.stack
+  pub stack_mark : n.stack_mark ≡ k.stack_mark
   pub okay : n.okay ≡ k.okay
   pub extends : ExtendsBy k.store n.store clauses
   pub become : map (in_own n.maps) clauses ≡ map hard_clause made
@@ -79,6 +86,9 @@ private_state k n v d clauses made p h =
     p.stack
     (ap (map is_some) p.maps.inners ∙ map-append is_some k.maps.inners (Some p.maps.inner ∷ []))
     p.okay
+    (ap (λ (hs : List Held). own_clauses n.maps (learned_of hs)) p.extends.marked
+    ∙ sym (numbered_view k.maps n.maps v p.maps.inner p.maps.numbered.free p.maps.numbered.given (learned_of (marked k.store)) (marked_pass (list_all (λ (l : OwnLit). is_active (state_of k) l.var.0)) k.maps k.store h.places.placed.learned)))
+    (ap₂ {C = List Entry} take p.stack_mark p.stack)
 
 -- and stands
 pub private-Standing : (k n : Kernel) (v : Own) (d : Definition) (clauses : List InClause) (made : List (List OwnLit)) → PrivateMade k n v d clauses made → Defines (state_of k) (Some d) made → Standing k → Standing n
@@ -91,4 +101,5 @@ private-Standing k n v d clauses made p f h =
           ∙ (map-append is_some k.definitions (Some d ∷ [])
           ∙ (ap (λ (z : List Bool). z ++ true ∷ []) h.private
           ∙ (sym (map-append (λ (x : Option Var). not (is_some x)) k.maps.outer_numbers (None ∷ [])) ∙ ap (map (λ (x : Option Var). not (is_some x))) (sym p.maps.outer_numbers))));
+      within = let b : n.stack_mark ≡ k.stack_mark = p.stack_mark in let c : length n.stack ≡ length k.stack = ap length p.stack in omega (arith, h.within, b, c);
     }

@@ -1,7 +1,7 @@
 -- A kernel stands when an entry that fixes or replaces a variable is put into it.
-use Rattle.std.proofs.Common.{◌≡◌, ℕ, Bool, true, false, not, List, [], ◌∷◌, ◌++◌, refl, sym, ap, subst, ◌∙◌, get_or, set, filter, map, Option, Some, None, is_some}
+use Rattle.std.proofs.Common.{◌≡◌, ℕ, Bool, true, false, not, List, [], ◌∷◌, ◌++◌, refl, sym, ap, subst, ◌∙◌, get_or, set, filter, map, Option, Some, None, is_some, ◌≤◌, length, ◌+◌, length-append, arith, ap₂, take}
 use Rattle.std.proofs.lemmas.Bool.{or_right, false≢true}
-use Rattle.std.proofs.lemmas.List.{map-set}
+use Rattle.std.proofs.lemmas.List.{map-set, take-append-le}
 use Rattle.std.specs.List.{list_all}
 use Rattle.sat_lits.specs.Truth.{with_value}
 use Rattle.sat_lits.specs.ListLaws.{all_mono}
@@ -16,7 +16,7 @@ use Rattle.rebuild_stack.specs.CommonLaws.{each_mono}
 use Rattle.rebuild_stack.specs.declared.entry.Entry.{Entry}
 use Rattle.rebuild_stack.specs.declared.entry.Root.{Root}
 use Rattle.rebuild_stack.specs.declared.entry.Root.TheVariants.{Known, Last, Lost}
-use Rattle.clause_store.specs.Store.{Store, Held, IsKept, hard_of, learned_of}
+use Rattle.clause_store.specs.Store.{Store, Held, IsKept, hard_of, learned_of, marked}
 use Rattle.var_maps.specs.Maps.{Maps, Matched, inner_at, retired, plain}
 use Rattle.state_laws.specs.State.{State, is_active, outers_from}
 use Rattle.state_laws.specs.Stands.{Stands}
@@ -27,6 +27,7 @@ use Rattle.state_laws.specs.Held.{own_clause, own_clauses, has_inner, touches, i
 use Rattle.state_laws.specs.Kernel.{Kernel, state_of, Standing, Keeps}
 use Rattle.state_laws.specs.PlaceLaws.{root_step, with_false}
 use Rattle.state_laws.specs.PutIntoLaws.{put_into-Stands}
+use Rattle.state_laws.specs.MarkLaws.{marked_pass, collected_marked, collected_marked_clauses}
 use Rattle.state_laws.specs.ViewLaws.{state_of_parts, clauses_of, clauses_of-filter, clauses_of-strip, listed, listed-put_each, map_map, news_of, both_lists, collected_held, collected_clauses, retired_view, get_is_some}
 
 passes_more : (p q : OwnLit → Bool) (r : Root) → ((l : OwnLit) → p l ≡ true → q l ≡ true) → root_passes p r ≡ true → root_passes q r ≡ true
@@ -60,6 +61,8 @@ pub record Pushed (k n : Kernel) (e : Entry) (ids : List ℕ) (clauses : List In
   pub store : n.store ≡ without_ids ids t
   pub stack : n.stack ≡ k.stack ++ e ∷ []
   pub okay : n.okay ≡ k.okay
+  pub stack_mark : n.stack_mark ≡ k.stack_mark
+  pub within : k.stack_mark ≤ length k.stack
   pub collected : Collected k.maps (root (e ∷ [])) (named e) k.store.held ids clauses
   pub extends : ExtendsBy k.store t clauses
   pub matched : Matched k.maps
@@ -81,6 +84,9 @@ through k n e ids clauses t p test =
     (sym (ap (listed test) (map_map (in_own k.maps) strip (filter (touches k.maps (named e)) k.store.held)))
     ∙ (sym (clauses_of-strip k.maps test (filter (touches k.maps (named e)) k.store.held)) ∙ clauses_of-filter k.maps test (mentions (named e)) k.store.held))))
 
+left_marked : (k n : Kernel) (e : Entry) (ids : List ℕ) (clauses : List InClause) (t : Store) → Pushed k n e ids clauses t → own_clauses k.maps (learned_of (marked n.store)) ≡ (put_into e (state_of k)).marked_learned
+left_marked k n e ids clauses t p = collected_marked_clauses k.maps (named e) k.store (marked n.store) (ap marked p.store ∙ collected_marked k.maps (named e) k.store t ids clauses p.collected.doomed p.kept p.extends)
+
 -- it is seen as the state that the entry is put into
 pub pushed_state : (k n : Kernel) (e : Entry) (ids : List ℕ) (clauses : List InClause) (t : Store) → Pushed k n e ids clauses t → Pushable (state_of k) e → Stands (put_into e (state_of k)) → state_of n ≡ put_into e (state_of k)
 pushed_state k n e ids clauses t p q h =
@@ -90,6 +96,11 @@ pushed_state k n e ids clauses t p q h =
     p.stack
     (ap (λ (m : Maps). map is_some m.inners) p.maps ∙ map-set is_some k.maps.inners (named e) None)
     p.okay
+    (view (learned_of (marked n.store)) (put_into e (state_of k)).marked_learned (left_marked k n e ids clauses t p)
+    (subst (λ (z : List (List OwnLit)). each_lit (λ l. is_active (put_into e (state_of k)) l.var.0) z ≡ true) (left_marked k n e ids clauses t p)
+    (marked_pass (list_all (λ (l : OwnLit). is_active (put_into e (state_of k)) l.var.0)) k.maps n.store
+    (subst (λ (z : List (List OwnLit)). each_lit (λ l. is_active (put_into e (state_of k)) l.var.0) z ≡ true) (sym (through k n e ids clauses t p (λ b. b))) h.places.placed.learned))))
+    (ap₂ {C = List Entry} take p.stack_mark p.stack ∙ take-append-le k.stack_mark k.stack (e ∷ []) p.within)
   where
     i : (i : Inner) × (inner_at k.maps (named e) ≡ Some i)
     i = some_inner (inner_at k.maps (named e)) (sym (get_is_some k.maps.inners (named e)) ∙ q.active)
@@ -112,4 +123,5 @@ pushed-Standing k n e ids clauses t p q f h =
       stands = subst (λ (s : State). Stands s) (sym (pushed_state k n e ids clauses t p q (put_into-Stands e (state_of k) q f h.stands))) (put_into-Stands e (state_of k) q f h.stands);
       outers = ap (λ (m : Maps). map (λ v. v.0) m.outers) p.maps ∙ (h.outers ∙ ap (outers_from 0) (sym p.definitions));
       private = ap (map is_some) p.definitions ∙ (h.private ∙ sym (ap (λ (m : Maps). map (λ o. not (is_some o)) m.outer_numbers) p.maps));
+      within = let b : n.stack_mark ≡ k.stack_mark = p.stack_mark in let c : length n.stack ≡ length k.stack + 1 = ap length p.stack ∙ length-append k.stack (e ∷ []) in omega (arith, h.within, b, c);
     }

@@ -1,5 +1,5 @@
 -- A kernel stands when an item or a shared entry is taken.
-use Rattle.std.proofs.Common.{◌≡◌, ℕ, zero, suc, Bool, true, not, nat_lt, List, [], ◌∷◌, ◌++◌, refl, sym, ap, subst, ◌∙◌, length, get_or, map, Option, Some, None, is_some, option_to_list, append-nil}
+use Rattle.std.proofs.Common.{◌≡◌, ℕ, zero, suc, Bool, true, not, nat_lt, List, [], ◌∷◌, ◌++◌, refl, sym, ap, subst, ◌∙◌, length, get_or, map, Option, Some, None, is_some, option_to_list, append-nil, take, ◌≤◌, ap₂, arith}
 use Rattle.std.proofs.Math.Path.{fun_ext}
 use Rattle.std.proofs.lemmas.List.{length-map}
 use Rattle.std.proofs.lemmas.List.Folds.{list_all-map}
@@ -14,7 +14,7 @@ use Rattle.sat_lits.specs.declared.shared.Shared.{Shared}
 use Rattle.rebuild_stack.specs.Roots.{root}
 use Rattle.rebuild_stack.specs.PutIn.{put_in, option_passes}
 use Rattle.rebuild_stack.specs.declared.entry.Root.{Root}
-use Rattle.clause_store.specs.Store.{hard_of, learned_of}
+use Rattle.clause_store.specs.Store.{hard_of, learned_of, marked, Held}
 use Rattle.var_maps.specs.Maps.{Maps, plain}
 use Rattle.state_laws.specs.State.{State, is_active, outers_from, to_own}
 use Rattle.state_laws.specs.Stands.{Stands}
@@ -24,6 +24,7 @@ use Rattle.state_laws.specs.Held.{own_clauses, own_outer, has_inner, InClause, i
 use Rattle.state_laws.specs.Kernel.{Kernel, state_of, Standing, Longer}
 use Rattle.state_laws.specs.TakeLaws.{own_form_active, taken-Stands, imported-Stands}
 use Rattle.state_laws.specs.ExtendLaws.{taking-Stands}
+use Rattle.rebuild_stack.specs.declared.entry.Entry.{Entry}
 use Rattle.state_laws.specs.ViewLaws.{state_of_parts, clauses_of, clauses_of-append, listed, listed-hard, listed-none, news_of, get_is_some}
 
 -- hard clauses were added, that are these in own literals; what was taken may have grown
@@ -31,6 +32,7 @@ pub record HoldsMore (k n : Kernel) (clauses : List InClause) (made : List (List
   pub definitions : n.definitions ≡ k.definitions
   pub maps : plain n.maps ≡ plain k.maps
   pub stack : n.stack ≡ k.stack
+  pub stack_mark : n.stack_mark ≡ k.stack_mark
   pub okay : n.okay ≡ k.okay
   pub extends : ExtendsBy k.store n.store clauses
   pub become : map (in_own k.maps) clauses ≡ map hard_clause made
@@ -51,6 +53,17 @@ more_hard k n clauses made x = more_clauses k n clauses made x not ∙ ap (λ z.
 
 same_learned : (k n : Kernel) (clauses : List InClause) (made : List (List OwnLit)) → HoldsMore k n clauses made → own_clauses n.maps (learned_of n.store.held) ≡ (state_of k).learned
 same_learned k n clauses made x = more_clauses k n clauses made x (λ b. b) ∙ (ap (λ z. clauses_of k.maps (λ b. b) k.store.held ++ z) (listed-none made) ∙ append-nil (clauses_of k.maps (λ b. b) k.store.held))
+
+-- no other clause is marked
+same_marked : (k n : Kernel) (clauses : List InClause) (made : List (List OwnLit)) → HoldsMore k n clauses made → own_clauses n.maps (learned_of (marked n.store)) ≡ (state_of k).marked_learned
+same_marked k n clauses made x = ap (λ (m : Maps). own_clauses m (learned_of (marked n.store))) x.maps ∙ ap (λ (hs : List Held). own_clauses k.maps (learned_of hs)) x.extends.marked
+
+-- nor another entry
+same_marked_stack : (k n : Kernel) (clauses : List InClause) (made : List (List OwnLit)) → HoldsMore k n clauses made → take n.stack_mark n.stack ≡ (state_of k).marked_stack
+same_marked_stack k n clauses made x = ap₂ {C = List Entry} take x.stack_mark x.stack
+
+still_within : (k n : Kernel) (clauses : List InClause) (made : List (List OwnLit)) → HoldsMore k n clauses made → Standing k → n.stack_mark ≤ length n.stack
+still_within k n clauses made x h = let a : n.stack_mark ≡ k.stack_mark = x.stack_mark in let b : length n.stack ≡ length k.stack = ap length x.stack in omega (arith, h.within, a, b)
 
 outer_number : (vs : List Own) (i : ℕ) → get_or (map (λ v. v.0) vs) i 0 ≡ (get_or vs i (let z : Own = record { 0 = 0 } in z)).0
 outer_number [] i = refl
@@ -92,6 +105,7 @@ pub taken_state : (k n : Kernel) (c : List Lit) (clauses : List InClause) → Ho
 taken_state k n c clauses x i e =
     state_of_parts n i e x.definitions (more_hard k n clauses (option_to_list (own_form (state_of k) c)) x) (same_learned k n clauses (option_to_list (own_form (state_of k) c)) x) x.stack
     (ap (λ (m : Maps). map is_some m.inners) x.maps) x.okay
+    (same_marked k n clauses (option_to_list (own_form (state_of k) c)) x) (same_marked_stack k n clauses (option_to_list (own_form (state_of k) c)) x)
 
 -- and it stands
 pub taken-Standing : (k n : Kernel) (c : List Lit) (clauses : List InClause) → HoldsMore k n clauses (option_to_list (own_form (state_of k) c)) → n.items ≡ k.items ++ Clause c ∷ [] → n.entries ≡ k.entries → Takable (state_of k) c
@@ -101,6 +115,7 @@ taken-Standing k n c clauses x i e t h =
       stands = subst (λ (s : State). Stands s) (sym (taken_state k n c clauses x i e)) (taken-Stands c (state_of k) t h.stands);
       outers = same_outers k n x.definitions x.maps h;
       private = same_private k n x.definitions x.maps h;
+      within = still_within k n clauses (option_to_list (own_form (state_of k) c)) x h;
     }
 
 -- a shared entry was taken, and its clause is held
@@ -108,6 +123,7 @@ pub imported_state : (k n : Kernel) (s : Shared) (clauses : List InClause) → H
 imported_state k n s clauses x i e =
     state_of_parts n i e x.definitions (more_hard k n clauses (option_to_list (own_form (state_of k) s.clause)) x) (same_learned k n clauses (option_to_list (own_form (state_of k) s.clause)) x) x.stack
     (ap (λ (m : Maps). map is_some m.inners) x.maps) x.okay
+    (same_marked k n clauses (option_to_list (own_form (state_of k) s.clause)) x) (same_marked_stack k n clauses (option_to_list (own_form (state_of k) s.clause)) x)
 
 -- and it stands
 pub imported-Standing : (k n : Kernel) (s : Shared) (clauses : List InClause) → HoldsMore k n clauses (option_to_list (own_form (state_of k) s.clause)) → n.items ≡ k.items → n.entries ≡ k.entries ++ s ∷ [] → Takable (state_of k) s.clause
@@ -117,12 +133,14 @@ imported-Standing k n s clauses x i e t h =
       stands = subst (λ (z : State). Stands z) (sym (imported_state k n s clauses x i e)) (imported-Stands s (state_of k) t h.stands);
       outers = same_outers k n x.definitions x.maps h;
       private = same_private k n x.definitions x.maps h;
+      within = still_within k n clauses (option_to_list (own_form (state_of k) s.clause)) x h;
     }
 
 -- an item was taken, and clauses that stand for it are held
 pub item_taken_state : (k n : Kernel) (item : Item) (clauses : List InClause) (made : List (List OwnLit)) → HoldsMore k n clauses made → n.items ≡ k.items ++ item ∷ [] → n.entries ≡ k.entries → state_of n ≡ taking item made (state_of k)
 item_taken_state k n item clauses made x i e =
     state_of_parts n i e x.definitions (more_hard k n clauses made x) (same_learned k n clauses made x) x.stack (ap (λ (m : Maps). map is_some m.inners) x.maps) x.okay
+    (same_marked k n clauses made x) (same_marked_stack k n clauses made x)
 
 -- and it stands
 pub item_taken-Standing : (k n : Kernel) (item : Item) (clauses : List InClause) (made : List (List OwnLit)) → HoldsMore k n clauses made → n.items ≡ k.items ++ item ∷ [] → n.entries ≡ k.entries → StandsFor (state_of k) item made
@@ -132,4 +150,5 @@ item_taken-Standing k n item clauses made x i e f h =
       stands = subst (λ (z : State). Stands z) (sym (item_taken_state k n item clauses made x i e)) (taking-Stands item made (state_of k) f h.stands);
       outers = same_outers k n x.definitions x.maps h;
       private = same_private k n x.definitions x.maps h;
+      within = still_within k n clauses made x h;
     }

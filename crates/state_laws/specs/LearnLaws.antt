@@ -25,9 +25,9 @@ with_hard-Stands cs s e a c h =
     }
 
 -- other learned clauses that follow from the hard and the learned ones
-pub with_learned-Stands : (cs : List (List OwnLit)) (s : State) → ((w : ℕ → Bool) → Satisfies s w → clauses_value (own_value w) cs ≡ true) → each_lit (λ l. is_active s l.var.0) cs ≡ true → list_all is_clean cs ≡ true
-    → Stands s → Stands (with_learned cs s)
-with_learned-Stands cs s e a c h =
+pub with_learned-Stands : (cs ms : List (List OwnLit)) (s : State) → ((w : ℕ → Bool) → Satisfies s w → clauses_value (own_value w) cs ≡ true) → each_lit (λ l. is_active s l.var.0) cs ≡ true → list_all is_clean cs ≡ true
+    → Stands s → Stands (with_learned cs ms s)
+with_learned-Stands cs ms s e a c h =
     record {
       sound = record { hard = h.sound.hard; learned = λ w b. e w (record { hard = h.sound.hard w b; learned = h.sound.learned w b }); stack = h.sound.stack; okay = h.sound.okay };
       complete = record { rebuilt = h.complete.rebuilt };
@@ -39,7 +39,7 @@ with_learned-Stands cs s e a c h =
 -- a clause is learned
 pub learning-Stands : (c : List OwnLit) (s : State) → Learnable s c → Stands s → Stands (learning c s)
 learning-Stands c s l h =
-    with_learned-Stands (s.learned ++ c ∷ []) s
+    with_learned-Stands (s.learned ++ c ∷ []) s.marked_learned s
     (λ w a. list_all-append (list_any (own_value w)) s.learned (c ∷ []) ∙ and_from _ _ a.learned (and_from _ _ (l.follows w a) refl))
     (list_all-append (list_all (λ (x : OwnLit). is_active s x.var.0)) s.learned (c ∷ []) ∙ and_from _ _ h.places.placed.learned (and_from _ _ l.active refl))
     (list_all-append is_clean s.learned (c ∷ []) ∙ and_from _ _ h.clean.learned (and_from _ _ l.clean refl)) h

@@ -17,6 +17,7 @@ pub mod EliminateLaws
 pub mod RestoreLaws
 pub mod HeldLaws
 pub mod ViewLaws
+pub mod MarkLaws
 pub mod KernelPutIntoLaws
 pub mod KernelTakeLaws
 pub mod KernelLearnLaws

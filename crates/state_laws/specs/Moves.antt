@@ -20,7 +20,7 @@ use Rattle.state_laws.specs.Resolution.{mentions, resolvents}
 abbrev pub put_through : Entry → List (List OwnLit) → List (List OwnLit)
 put_through e cs = filter (λ c. not (mentions (named e) c)) cs ++ put_in_all (root (e ∷ [])) (filter (mentions (named e)) cs)
 
--- an entry that fixes or replaces its variable is pushed and put into all clauses
+-- an entry that fixes or replaces its variable is pushed and put into all clauses; what it makes of them is not marked
 abbrev pub put_into : Entry → State → State
 put_into e s =
     record s {
@@ -28,6 +28,7 @@ put_into e s =
       learned = put_through e s.learned;
       stack = s.stack ++ e ∷ [];
       active = slice_set s.active (named e) false;
+      marked_learned = filter (λ c. not (mentions (named e) c)) s.marked_learned;
     }
 
 -- a variable is taken out: its hard clauses go into an entry and leave their resolvents, its learned ones are dropped
@@ -38,6 +39,7 @@ eliminated v s =
       learned = filter (λ c. not (mentions v.0 c)) s.learned;
       stack = s.stack ++ Gone v (filter (mentions v.0) s.hard) ∷ [];
       active = slice_set s.active v.0 false;
+      marked_learned = filter (λ c. not (mentions v.0 c)) s.marked_learned;
     }
 
 -- the entry at a place, a `Gone` of the variable with these clauses, is taken out, and the clauses are hard again with the newer entries put in
@@ -47,6 +49,7 @@ restored at v cs s =
       hard = s.hard ++ put_in_all (root (drop (suc at) s.stack)) cs;
       stack = remove s.stack at;
       active = slice_set s.active v.0 true;
+      marked_stack = remove s.marked_stack at;
     }
 
 -- what an outer clause is in own literals with the stack put in: nothing where it is satisfied or a tautology
@@ -85,9 +88,9 @@ learning c s = record s { learned = s.learned ++ c ∷ [] }
 abbrev pub with_hard : List (List OwnLit) → State → State
 with_hard cs s = record s { hard = cs }
 
--- the learned clauses are these
-abbrev pub with_learned : List (List OwnLit) → State → State
-with_learned cs s = record s { learned = cs }
+-- the learned clauses are these, and these of them are marked
+abbrev pub with_learned : List (List OwnLit) → List (List OwnLit) → State → State
+with_learned cs marked s = record s { learned = cs; marked_learned = marked }
 
 -- the state is found to have no model
 abbrev pub refuted : State → State

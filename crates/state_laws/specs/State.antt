@@ -15,7 +15,7 @@ use Rattle.rebuild_stack.specs.declared.entry.Entry.{Entry}
 use Rattle.state_laws.specs.declared.definition.Definition.{Definition}
 use Rattle.state_laws.specs.declared.definition.Definition.TheVariants.{Xor, And}
 
--- the items and the shared entries that the state took, the definition of each own variable (none of an outer one), the clauses that it holds, the stack of variables that left them, which own variables are active, and whether the state is okay
+-- the items and the shared entries that the state took, the definition of each own variable (none of an outer one), the clauses that it holds, the stack of variables that left them, which own variables are active, whether the state is okay, and what was there at the last mark and still is: learned clauses, and entries of the stack
 pub record State : Type 0 where
   pub items : List Item
   pub entries : List Shared
@@ -25,10 +25,12 @@ pub record State : Type 0 where
   pub stack : List Entry
   pub active : List Bool
   pub okay : Bool
+  pub marked_learned : List (List OwnLit)
+  pub marked_stack : List Entry
 
 -- a state that took nothing
 abbrev pub no_state : State
-no_state = record { items = []; entries = []; definitions = []; hard = []; learned = []; stack = []; active = []; okay = true }
+no_state = record { items = []; entries = []; definitions = []; hard = []; learned = []; stack = []; active = []; okay = true; marked_learned = []; marked_stack = [] }
 
 -- whether an own variable is active
 abbrev pub is_active : State → ℕ → Bool

@@ -1,5 +1,5 @@
 -- Stored clauses read in own literals, when the store or the maps change.
-use Rattle.std.proofs.Common.{◌≡◌, ℕ, zero, suc, ◌==◌, Bool, true, false, cond, not, ◌&&◌, List, [], ◌∷◌, ◌++◌, refl, sym, ap, ap₂, subst, ◌∙◌, length, get_or, set, filter, map, Option, Some, None, is_some, ne_eqb, eqb-true, eq-eqb, get_or-set_other, ⊎_elim}
+use Rattle.std.proofs.Common.{◌≡◌, ℕ, zero, suc, ◌==◌, Bool, true, false, cond, not, ◌&&◌, List, [], ◌∷◌, ◌++◌, refl, sym, ap, ap₂, subst, ◌∙◌, length, get_or, set, filter, map, take, Option, Some, None, is_some, ne_eqb, eqb-true, eq-eqb, get_or-set_other, ⊎_elim, ◌≤◌}
 use Rattle.std.proofs.lemmas.Bool.{and_parts, and_from, or_left, or_right, false≢true, false_from_ne_true, or_cases}
 use Rattle.std.proofs.lemmas.List.{map-append}
 use Rattle.std.proofs.lemmas.List.Elements.{filter-append}
@@ -20,7 +20,7 @@ use Rattle.rebuild_stack.specs.Roots.{turned}
 use Rattle.rebuild_stack.specs.PutIn.{same_lit, put_in, put_in_all, is_clean}
 use Rattle.rebuild_stack.specs.declared.entry.Entry.{Entry}
 use Rattle.rebuild_stack.specs.declared.entry.Root.{Root}
-use Rattle.clause_store.specs.Store.{Store, Held, IsKept, hard_of, learned_of}
+use Rattle.clause_store.specs.Store.{Store, Held, IsKept, hard_of, learned_of, marked}
 use Rattle.var_maps.specs.Maps.{Maps, Matched, inner_at, owner_at, retired, number_or}
 use Rattle.state_laws.specs.declared.definition.Definition.{Definition}
 use Rattle.state_laws.specs.State.{State, outers_from}
@@ -31,11 +31,12 @@ use Rattle.state_laws.specs.Kernel.{Kernel, state_of, Standing}
 use Rattle.state_laws.specs.HeldLaws.{drop_those, keep_news}
 
 -- a kernel with these parts is seen as the state that has them
-pub state_of_parts : (k : Kernel) {items : List Item} {entries : List Shared} {definitions : List (Option Definition)} {hard learned : List (List OwnLit)} {stack : List Entry} {active : List Bool} {okay : Bool}
+pub state_of_parts : (k : Kernel) {items : List Item} {entries : List Shared} {definitions : List (Option Definition)} {hard learned : List (List OwnLit)} {stack : List Entry} {active : List Bool} {okay : Bool} {marked_learned : List (List OwnLit)} {marked_stack : List Entry}
     → k.items ≡ items → k.entries ≡ entries → k.definitions ≡ definitions → own_clauses k.maps (hard_of k.store.held) ≡ hard → own_clauses k.maps (learned_of k.store.held) ≡ learned
     → k.stack ≡ stack → map is_some k.maps.inners ≡ active → k.okay ≡ okay
-    → state_of k ≡ record { items = items; entries = entries; definitions = definitions; hard = hard; learned = learned; stack = stack; active = active; okay = okay }
-state_of_parts k i e d h l s a o = rw (i, e, d, h, l, s, a, o) refl
+    → own_clauses k.maps (learned_of (marked k.store)) ≡ marked_learned → take k.stack_mark k.stack ≡ marked_stack
+    → state_of k ≡ record { items = items; entries = entries; definitions = definitions; hard = hard; learned = learned; stack = stack; active = active; okay = okay; marked_learned = marked_learned; marked_stack = marked_stack }
+state_of_parts k i e d h l s a o m t = rw (m, t, i, e, d, h, l, s, a, o) refl
 
 -- the stored clauses whose list passes a test, in own literals
 abbrev pub clauses_of : Maps → (Bool → Bool) → List Held → List (List OwnLit)
@@ -257,10 +258,11 @@ stored_lits_owned k h =
     (both_lists k.maps (list_all (λ (l : OwnLit). get_or (map is_some k.maps.inners) l.var.0 false)) k.store.held h.stands.places.placed.hard h.stands.places.placed.learned)
 
 -- a kernel that is seen as the same state, with the same outer variables in its maps, stands too
-pub same_state-Standing : (k n : Kernel) → state_of n ≡ state_of k → n.maps.outers ≡ k.maps.outers → n.maps.outer_numbers ≡ k.maps.outer_numbers → Standing k → Standing n
-same_state-Standing k n e o p h =
+pub same_state-Standing : (k n : Kernel) → state_of n ≡ state_of k → n.maps.outers ≡ k.maps.outers → n.maps.outer_numbers ≡ k.maps.outer_numbers → n.stack_mark ≤ length n.stack → Standing k → Standing n
+same_state-Standing k n e o p w h =
     record {
       stands = subst (λ (s : State). Stands s) (sym e) h.stands;
       outers = ap (map (λ (v : Own). v.0)) o ∙ (h.outers ∙ ap (λ (s : State). outers_from 0 s.definitions) (sym e));
       private = ap (λ (s : State). map is_some s.definitions) e ∙ (h.private ∙ sym (ap (map (λ (x : Option Var). not (is_some x))) p));
+      within = w;
     }

@@ -109,10 +109,10 @@ pub fn a_state_stands_after_a_clause_is_learned()
 
 /// A state stands with other learned clauses that follow, as after some are dropped.
 pub fn a_state_stands_with_other_learned_clauses()
-    ensures { (clauses : List (List OwnLit)) (s : State)
+    ensures { (clauses marked : List (List OwnLit)) (s : State)
         → ((w : ℕ → Bool) → Satisfies s w → clauses_value (own_value w) clauses ≡ true)
         → each_lit (λ l. is_active s l.var.0) clauses ≡ true → list_all is_clean clauses ≡ true
-        → Stands s → Stands (with_learned clauses s) }
+        → Stands s → Stands (with_learned clauses marked s) }
 {}
 
 /// A state stands with other hard clauses that say the same, as after an implied one is dropped.

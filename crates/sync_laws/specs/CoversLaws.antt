@@ -187,8 +187,8 @@ pub learning-Covers : (d : List OwnLit) (s : State) (c : List Lit) → Covers s 
 learning-Covers d s c m = m
 
 -- when the learned clauses become others
-pub with_learned-Covers : (ds : List (List OwnLit)) (s : State) (c : List Lit) → Covers s c → Covers (with_learned ds s) c
-with_learned-Covers ds s c m = m
+pub with_learned-Covers : (ds ms : List (List OwnLit)) (s : State) (c : List Lit) → Covers s c → Covers (with_learned ds ms s) c
+with_learned-Covers ds ms s c m = m
 
 -- when the state is refuted
 pub refuted-Covers : (s : State) (c : List Lit) → Covers s c → Covers (refuted s) c

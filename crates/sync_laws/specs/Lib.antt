@@ -1,9 +1,11 @@
+pub mod Told
 pub mod Met
 pub mod Steps
 pub mod FitLaws
 pub mod CoverLaws
 pub mod CoversLaws
 pub mod MetLaws
+pub mod ToldLaws
 pub mod KeepLaws
 pub mod StepLaws
 pub mod TurnLaws

@@ -5,6 +5,7 @@ use Rattle.std.specs.List.{list_all, list_any}
 use Rattle.sat_lits.specs.Formulas.{names_known}
 use Rattle.sat_lits.specs.declared.literal.Lit.{Lit}
 use Rattle.sat_lits.specs.declared.literal.OwnLit.{OwnLit}
+use Rattle.sat_lits.specs.declared.shared.Shared.{Shared}
 use Rattle.sat_lits.specs.declared.formula.Item.TheVariants.{Clause}
 use Rattle.rebuild_stack.specs.Entries.{is_gone}
 use Rattle.rebuild_stack.specs.Roots.{root}
@@ -13,6 +14,7 @@ use Rattle.rebuild_stack.specs.declared.entry.Entry.{Entry}
 use Rattle.rebuild_stack.specs.declared.entry.Entry.TheVariants.{Fix, Equal, Gone}
 use Rattle.state_laws.specs.State.{State, to_own, outer_count}
 use Rattle.state_laws.specs.Resolution.{mentions}
+use Rattle.sync_laws.specs.Told.{IsTold}
 
 -- the entries that fix or replace a variable
 abbrev pub bindings : List Entry → List Entry
@@ -51,8 +53,9 @@ pub record IsMet (s : State) (c : List Lit) : Type 0 where
   pub there : names_known (outer_count s.definitions) (Clause c) ≡ true
   pub covers : Covers s c
 
--- what a change of a state keeps for the exchange: each clause that was met is met, the shared entries taken are the same, and a refuted state stays so
+-- what a change of a state keeps for the exchange: each clause that was met is met, the shared entries taken are the same, a refuted state stays so, and where what is marked was told to a log, it is told to that still
 pub record KeepsMet (s t : State) : Type 0 where
   pub met : (c : List Lit) → IsMet s c → IsMet t c
   pub entries : t.entries ≡ s.entries
   pub okay : t.okay ≡ true → s.okay ≡ true
+  pub told : (log : List Shared) → IsTold s log → IsTold t log

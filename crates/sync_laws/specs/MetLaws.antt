@@ -44,8 +44,8 @@ pub with_hard-IsMet : (cs : List (List OwnLit)) (s : State) (c : List Lit) → a
 with_hard-IsMet cs s c e m = record { there = m.there; covers = with_hard-Covers cs s c e m.covers }
 
 -- learned clauses become others
-pub with_learned-IsMet : (cs : List (List OwnLit)) (s : State) (c : List Lit) → IsMet s c → IsMet (with_learned cs s) c
-with_learned-IsMet cs s c m = record { there = m.there; covers = m.covers }
+pub with_learned-IsMet : (cs ms : List (List OwnLit)) (s : State) (c : List Lit) → IsMet s c → IsMet (with_learned cs ms s) c
+with_learned-IsMet cs ms s c m = record { there = m.there; covers = m.covers }
 
 -- a clause is learned
 pub learning-IsMet : (d : List OwnLit) (s : State) (c : List Lit) → IsMet s c → IsMet (learning d s) c

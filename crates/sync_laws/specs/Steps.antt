@@ -1,5 +1,5 @@
 -- When a state is in step or settled with a log of shared clauses, and what a turn does.
-use Rattle.std.specs.Prelude.{◌≡◌, ℕ, ◌<◌, ◌≤◌, ◌==◌, Bool, true, false, ◌||◌, cond, List, [], ◌∷◌, ◌++◌, Some, All, Any, AllPairs, map, length, slice_get, nat_lt}
+use Rattle.std.specs.Prelude.{◌≡◌, ℕ, ◌<◌, ◌≤◌, ◌==◌, Bool, true, false, ◌||◌, List, [], ◌∷◌, ◌++◌, Some, All, Any, AllPairs, map, length, slice_get}
 use Rattle.std.specs.List.{list_any}
 use Rattle.sat_lits.specs.Meaning.{Problem, Follows}
 use Rattle.sat_lits.specs.Logs.{IsShareable, with_clauses}
@@ -8,10 +8,11 @@ use Rattle.sat_lits.specs.declared.literal.OwnLit.{OwnLit}
 use Rattle.sat_lits.specs.declared.shared.Shared.{Shared}
 use Rattle.rebuild_stack.specs.declared.entry.Entry.TheVariants.{Fix}
 use Rattle.share_store.specs.Log.{HasClause, LacksClause, entry_of}
-use Rattle.state_laws.specs.State.{State, to_own, outer_count}
+use Rattle.state_laws.specs.State.{State}
 use Rattle.state_laws.specs.Away.{is_away}
 use Rattle.state_laws.specs.Moves.{own_form}
 use Rattle.sync_laws.specs.Met.{is_covered, IsMet}
+pub use Rattle.sync_laws.specs.Told.{IsOuter, in_order}
 
 -- an entry stands in a log
 abbrev pub StandsIn : List Shared → Shared → Type 0
@@ -31,15 +32,6 @@ pub record IsInStep (s : State) (cursor : ℕ) (waiting : List ℕ) (log : List 
 -- whether an outer clause names a variable that is eliminated or replaced by an eliminated one, or is, with fixed and replaced literals put in, satisfied or a tautology, or has all literals of a hard or learned clause
 abbrev pub is_heard : State → List Lit → Bool
 is_heard s c = list_any (is_away s) c || is_covered (s.hard ++ s.learned) (own_form s c)
-
--- two literals in the order of their variables
-abbrev pub in_order : Lit → Lit → List Lit
-in_order k l = cond (nat_lt k.var.0 l.var.0) (k ∷ l ∷ []) (l ∷ k ∷ [])
-
--- an outer literal is there, and this is its own one
-pub record IsOuter (s : State) (l : Lit) (o : OwnLit) : Type 0 where
-  pub there : l.var.0 < outer_count s.definitions
-  pub own : to_own s.definitions l ≡ o
 
 -- where the state is okay, it heard of each entry, and the log has each fixed literal of an outer variable, and each learned clause of two literals of outer variables
 pub record IsSettled (s : State) (log : List Shared) : Type 0 where

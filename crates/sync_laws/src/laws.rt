@@ -1,6 +1,6 @@
 //! Laws on the definitions of this crate. Each is the contract of a function that does nothing.
 
-ghost use Rattle.std.specs.Prelude.{◌≡◌, ◌++◌, ℕ, true, false, List, [], All};
+ghost use Rattle.std.specs.Prelude.{◌≡◌, ◌++◌, ℕ, true, false, List, [], All, Contains};
 ghost use Rattle.std.specs.declared.option.Option.{Option};
 ghost use Rattle.std.specs.List.{list_all};
 ghost use Rattle.sat_lits.specs.Meaning.{Problem};
@@ -13,11 +13,13 @@ ghost use Rattle.sat_lits.specs.declared.shared.Shared.{Shared};
 ghost use Rattle.rebuild_stack.specs.Entries.{is_gone};
 ghost use Rattle.rebuild_stack.specs.PutIn.{is_clean};
 ghost use Rattle.rebuild_stack.specs.declared.entry.Entry.{Entry};
+ghost use Rattle.share_store.specs.Log.{HasClause};
 ghost use Rattle.state_laws.specs.declared.definition.Definition.{Definition};
 ghost use Rattle.state_laws.specs.State.{State, no_state};
 ghost use Rattle.state_laws.specs.Stands.{Stands, IsPlaced};
 ghost use Rattle.state_laws.specs.Moves.{put_into, eliminated, restored, taking, imported, learning, with_learned, with_hard, extended, grown, refuted};
 ghost use Rattle.state_laws.specs.Conditions.{Restorable, Takable};
+ghost use Rattle.sync_laws.specs.Told.{IsTold};
 ghost use Rattle.sync_laws.specs.Met.{IsMet, KeepsMet, are_subsumed};
 ghost use Rattle.sync_laws.specs.Steps.{StandsIn, is_heard, IsInStep, IsTurn};
 
@@ -48,10 +50,12 @@ pub fn an_item_taken_keeps_what_is_met()
     ensures { (item : Item) (clauses : List (List OwnLit)) (s : State) → KeepsMet s (taking item clauses s) }
 {}
 
-/// What is met stays so where a clause is learned, and where the learned clauses are others.
+/// What is met stays so where a clause is learned, and where the learned clauses are others, of which
+/// none is marked that was not.
 pub fn learned_clauses_keep_what_is_met()
     ensures one { (c : List OwnLit) (s : State) → KeepsMet s (learning c s) }
-    ensures others { (clauses : List (List OwnLit)) (s : State) → KeepsMet s (with_learned clauses s) }
+    ensures others { (clauses marked : List (List OwnLit)) (s : State)
+        → All (Contains s.marked_learned) marked → KeepsMet s (with_learned clauses marked s) }
 {}
 
 /// What is met stays so with other hard clauses, where each old one has all literals of a new one,
@@ -76,6 +80,14 @@ pub fn a_refutation_keeps_what_is_met()
 pub fn an_entry_taken_is_met()
     ensures others { (e : Shared) (s : State) (c : List Lit) → IsMet s c → IsMet (imported e s) c }
     ensures own { (e : Shared) (s : State) → Takable s e.clause → IsMet (imported e s) e.clause }
+{}
+
+/// What was told to a log stays told where a change keeps what is met, and to a log with more clauses.
+pub fn what_was_told_stays_told()
+    ensures kept { (s t : State) (log : List Shared) → KeepsMet s t → IsTold s log → IsTold t log }
+    ensures longer { (s : State) (log new : List Shared)
+        → ((c : List Lit) → HasClause log c → HasClause new c) → IsTold s log → IsTold s new }
+    ensures none { (log : List Shared) → IsTold no_state log }
 {}
 
 /// A standing state heard of each clause that it meets.

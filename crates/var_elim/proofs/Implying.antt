@@ -150,7 +150,7 @@ covered_self hs = go [] hs
     go front (k ∷ ks) = and_from _ _ (here front k ks) (subst (λ (z : List Held). list_all (λ h. h.learned || is_covered z h) ks ≡ true) (append_assoc front (k ∷ []) ks) (go (front ++ k ∷ []) ks))
 
 -- fewer clauses rise too
-rising_without : (i : ℕ) (hs : List Held) → rising hs ≡ true → rising (without i hs) ≡ true
+pub rising_without : (i : ℕ) (hs : List Held) → rising hs ≡ true → rising (without i hs) ≡ true
 rising_without i [] r = refl
 rising_without i (x ∷ hs) r =
     let s : (list_all (λ (j : Held). ltb x.id j.id) hs ≡ true) × (rising hs ≡ true) = and_parts _ _ r in

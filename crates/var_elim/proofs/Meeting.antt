@@ -1,6 +1,6 @@
 -- What the exchange keeps where variables are eliminated and needless clauses are dropped.
-use Rattle.std.proofs.Common.{◌≡◌, ℕ, Bool, true, false, cond, not, ◌||◌, ◌&&◌, List, [], ◌∷◌, map, refl, sym, ap, subst, ◌∙◌, filter, ⊎_elim}
-use Rattle.std.proofs.lemmas.Bool.{and_parts, and_from, or_left, or_right, or_cases, false≢true}
+use Rattle.std.proofs.Common.{◌≡◌, ℕ, Bool, true, false, cond, not, ◌||◌, ◌&&◌, List, [], ◌∷◌, Option, Some, None, All, map, option_map, nat_lt, refl, sym, ap, subst, ◌∙◌, filter, ⊎_elim}
+use Rattle.std.proofs.lemmas.Bool.{and_parts, and_from, or_left, or_right, or_cases, false≢true, not-true}
 use Rattle.std.proofs.lemmas.List.Folds.{list_all-map}
 use Rattle.std.specs.List.{list_any}
 use Rattle.sat_lits.specs.ListLaws.{all_mono, any_mono, any_map}
@@ -9,7 +9,7 @@ use Rattle.sat_lits.specs.declared.literal.InLit.{InLit}
 use Rattle.sat_lits.specs.declared.literal.Own.{Own}
 use Rattle.sat_lits.specs.declared.literal.OwnLit.{OwnLit}
 use Rattle.rebuild_stack.specs.PutIn.{same_lit as same_own}
-use Rattle.clause_store.specs.Store.{Held, hard_of, learned_of, rising}
+use Rattle.clause_store.specs.Store.{Store, Held, clause_at, hard_of, learned_of, without, rising}
 use Rattle.var_maps.specs.Maps.{Maps}
 use Rattle.state_laws.specs.State.{State, is_active}
 use Rattle.state_laws.specs.Stands.{Stands}
@@ -17,15 +17,17 @@ use Rattle.state_laws.specs.Moves.{eliminated, with_hard, with_learned}
 use Rattle.state_laws.specs.Held.{own_of, own_clause, own_clauses}
 use Rattle.state_laws.specs.Kernel.{Kernel, state_of}
 use Rattle.state_laws.specs.EliminateLaws.{eliminated-Stands}
+use Rattle.state_laws.specs.KernelLearnLaws.{other_marked}
 use Rattle.private_state.specs.Bounds.{meets_bound}
 use Rattle.sync_laws.specs.Met.{KeepsMet, is_within as is_within_own, are_subsumed}
+use Rattle.sync_laws.specs.Told.{IsToldClause}
 use Rattle.sync_laws.specs.FitLaws.{same_refl}
 use Rattle.sync_laws.specs.KeepLaws.{keeps_refl, keeps_trans, eliminated-KeepsMet, with_hard-KeepsMet, with_learned-KeepsMet}
-use Rattle.var_elim.specs.Subsumption.{is_within}
-use Rattle.var_elim.specs.Dropping.{Drops, AreCovered, is_covered}
+use Rattle.var_elim.specs.Subsumption.{is_within, subsumes_at}
+use Rattle.var_elim.specs.Dropping.{Drops, AreCovered, AreNeedless, IsNeedless, is_covered, without_each}
 use Rattle.var_elim.specs.Eliminating.{Eliminates, AllCanGo, eliminate_each}
 use Rattle.var_elim.proofs.Marking.{same_is}
-use Rattle.var_elim.proofs.Implying.{drops_covered}
+use Rattle.var_elim.proofs.Implying.{drops_covered, rising_without}
 
 -- variables are eliminated one after another
 pub eliminates_met : (n : ℕ) (left : ℕ → Bool) (s t : State) → Stands s → Eliminates n left s t → KeepsMet s t
@@ -71,12 +73,30 @@ subsumed_own m (h ∷ hs) news e =
     go true e r = r
     go false e r = and_from _ _ (covered_own m h.lits news e) r
 
+-- a needless clause is hard
+needless_hard : (hs : List Held) (i : ℕ) → IsNeedless hs i → option_map (λ h. h.learned) (clause_at hs i) ≡ Some false
+needless_hard hs i n = go (clause_at hs i) n.subsumed
+  where
+    go : (o : Option Held) → subsumes_at n.other.clause o ≡ true → option_map (λ (h : Held). h.learned) o ≡ Some false
+    go None t = absurd (false≢true t)
+    go (Some d) t = ap Some (not-true d.learned (and_parts _ _ (and_parts _ _ t).1).0)
+
+-- so the marked learned clauses stay where needless ones are dropped
+marked_stay : (s : Store) (hs : List Held) (ids : List ℕ) → rising hs ≡ true → AreNeedless hs ids
+    → filter (λ (h : Held). h.learned) (filter (λ h. nat_lt h.id s.mark) (without_each hs ids)) ≡ filter (λ h. h.learned) (filter (λ h. nat_lt h.id s.mark) hs)
+marked_stay s hs [] r a = refl
+marked_stay s hs (i ∷ ids) r a = marked_stay s (without i hs) ids (rising_without i hs r) a.1 ∙ other_marked (λ b. b) false i (record s { held = hs }) refl (needless_hard hs i a.0) r
+
 -- needless clauses are dropped, and nothing else changes
 pub drops_met : (n : ℕ) (k l : Kernel) → rising k.store.held ≡ true → l ≡ record k { store = record k.store { held = l.store.held } } → Drops n k.store.held l.store.held → KeepsMet (state_of k) (state_of l)
 drops_met n k l r e d =
     let hard : List (List OwnLit) = own_clauses k.maps (hard_of l.store.held) in
     let learned : List (List OwnLit) = own_clauses k.maps (learned_of l.store.held) in
+    let marked : List (List OwnLit) = own_clauses k.maps (learned_of (filter (λ (h : Held). nat_lt h.id k.store.mark) l.store.held)) in
+    let stay : marked ≡ (state_of k).marked_learned =
+    ap (λ (hs : List Held). own_clauses k.maps (learned_of (filter (λ h. nat_lt h.id k.store.mark) hs))) d.left
+    ∙ ap (λ (hs : List Held). own_clauses k.maps (map (λ h. h.lits) hs)) (marked_stay k.store k.store.held d.ids r d.needless) in
     subst (λ (z : Kernel). KeepsMet (state_of k) (state_of z)) (sym e)
-    (keeps_trans (state_of k) (with_hard hard (state_of k)) (with_learned learned (with_hard hard (state_of k)))
+    (keeps_trans (state_of k) (with_hard hard (state_of k)) (with_learned learned marked (with_hard hard (state_of k)))
     (with_hard-KeepsMet hard (state_of k) (subsumed_own k.maps k.store.held l.store.held (drops_covered n k.store.held l.store.held r d)))
-    (with_learned-KeepsMet learned (with_hard hard (state_of k))))
+    (with_learned-KeepsMet learned marked (with_hard hard (state_of k)) (λ log. subst (All (IsToldClause (with_hard hard (state_of k)) log)) (sym stay))))

@@ -1,12 +1,11 @@
-use Rattle.std.proofs.Common.{◌≡◌, ◌≢◌, ◌∙◌, ◌<◌, ◌≤◌, ℕ, Bool, true, false, refl, ap, sym, subst, List, [], ◌∷◌, Option, Some, None, length, get_or, option_map, IfOk, Result, Ok, Err}
-use Rattle.std.specs.List.{Contains, slice_get}
+use Rattle.std.proofs.Common.{◌≡◌, ◌≢◌, ◌∙◌, ◌<◌, ◌≤◌, ℕ, Bool, true, false, refl, ap, sym, subst, List, [], ◌∷◌, Option, Some, None, length, get_or, option_map, IfOk, Result, Ok, Err, arith}
+use Rattle.std.specs.List.{slice_get}
 use Rattle.std.proofs.lemmas.Option.{same_Some, none-some}
 use Rattle.sat_lits.specs.ListLaws.{all_get}
 use Rattle.sat_lits.specs.declared.literal.Lit.{Lit}
 use Rattle.sat_lits.specs.declared.literal.OwnLit.{OwnLit}
 use Rattle.sat_lits.specs.declared.literal.InLit.{InLit}
 use Rattle.rebuild_stack.specs.PutIn.{is_clean}
-use Rattle.data_sync.specs.Books.{met_in}
 use Rattle.clause_store.specs.Store.{Store, Held, clause_at, learned_of}
 use Rattle.var_maps.specs.Maps.{Maps, Matched}
 use Rattle.state_laws.specs.State.{State, outer_count}
@@ -15,9 +14,12 @@ use Rattle.state_laws.specs.Kernel.{Kernel, Standing, state_of}
 use Rattle.sync_laws.specs.Steps.{IsOuter, in_order}
 use Rattle.sync_laws.specs.TurnLaws.{binary_follows}
 use Rattle.data_sync.specs.HeardLaws.{binary_heard}
-use Rattle.data_sync.specs.Giving.{stored_outer, HasPair}
+use Rattle.data_sync.specs.Giving.{stored_outer}
 use Rattle.data_sync.specs.GivingLaws.{gives_turns}
 use Rattle.data_sync.specs.BinaryLaws.{stored_is, stored_only, learned_place, outer_apart, pair_shareable, both_own}
+use Rattle.share_store.specs.Log.{HasClause}
+use Rattle.data_sync.specs.Giving.{IsToldAt}
+use Rattle.data_sync.specs.BinaryLaws.{told_at, not_two}
 use Rattle.data_sync.proofs.binaries.offer_clause.Goals as goal
 
 if_ok : {X E : Type 0} (P Q : X → Type 0) → ((x : X) → P x → Q x) → (r : Result X E) → IfOk r P → IfOk r Q
@@ -56,23 +58,39 @@ is_found k m x r l h q t e f = stored_is k x l h (subst Matched q t) (sym (ap (�
 abbrev zero_lit : InLit
 zero_lit = record { var = record { 0 = 0 }; negative = false }
 
-pub returns-in_default-outer_in-clause-pair : goal.returns-in_default-outer_in-clause-pair
-returns-in_default-outer_in-clause-pair c =
-    λ h e l k m first second q o p.
+pub returns-in_default-clause-told : goal.returns-in_default-clause-told
+returns-in_default-clause-told c =
+    told_at c.args.state.now c.args.store.now c.args.id.0 c.clauses-clauses.ensures.standing
+    (λ h e l x y first second q i j.
+    let n : length c.lits.result.now ≡ 2 = not_two c.args.state.now.maps (clause_at c.args.state.now.store.held c.args.id.0) h c.lits.result.now first second (subst (λ (s : Store). option_map (λ (d : Held). d.lits) (clause_at s.held c.args.id.0) ≡ Some c.lits.result.now) c.clauses-clauses.ensures.value c.lits.ensures.value) e q in
+    absurd (omega (arith, n, c.in_default.len_below)))
+
+pub returns-in_default-2-clause-told : goal.returns-in_default-2-clause-told
+returns-in_default-2-clause-told c =
+    told_at c.args.state.now c.args.store.now c.args.id.0 c.clauses-clauses.ensures.standing
+    (λ h e l x y first second q i j.
+    let n : length c.lits.result.now ≡ 2 = not_two c.args.state.now.maps (clause_at c.args.state.now.store.held c.args.id.0) h c.lits.result.now first second (subst (λ (s : Store). option_map (λ (d : Held). d.lits) (clause_at s.held c.args.id.0) ≡ Some c.lits.result.now) c.clauses-clauses.ensures.value c.lits.ensures.value) e q in
+    absurd (omega (arith, n, c.in_default.len_at_least)))
+
+pub returns-in_default-outer_in-clause-told : goal.returns-in_default-outer_in-clause-told
+returns-in_default-outer_in-clause-told c =
+    told_at c.args.state.now c.args.store.now c.args.id.0 c.clauses-clauses.ensures.standing
+    (λ h e l k m first second q o p.
     let two : own_clause c.args.state.now.maps h.lits ≡ own_of c.args.state.now.maps (get_or c.lits.result.now 0 zero_lit) ∷ own_of c.args.state.now.maps (get_or c.lits.result.now 1 zero_lit) ∷ [] =
     pairs c.args.state.now c.clauses-clauses.result.now c.args.id.0 c.lits.result.now zero_lit c.clauses-clauses.ensures.value c.lits.ensures.value c.in-len2.len_at_least c.in-len2.len_below h e in
     absurd (none-some k (sym c.in_default-outer_in.is
     ∙ outer_found c.args.state.now c.maps.result.now (get_or c.lits.result.now 0 zero_lit) c.outer_in.result first k c.clauses-clauses.ensures.standing c.maps.ensures.value c.outer_in.ensures.matched c.outer_in.ensures.value
-    (head_same _ _ _ _ (sym two ∙ q)) o))
+    (head_same _ _ _ _ (sym two ∙ q)) o)))
 
-pub returns-in_default-outer_in-2-clause-pair : goal.returns-in_default-outer_in-2-clause-pair
-returns-in_default-outer_in-2-clause-pair c =
-    λ h e l k m first second q o p.
+pub returns-in_default-outer_in-2-clause-told : goal.returns-in_default-outer_in-2-clause-told
+returns-in_default-outer_in-2-clause-told c =
+    told_at c.args.state.now c.args.store.now c.args.id.0 c.clauses-clauses.ensures.standing
+    (λ h e l k m first second q o p.
     let two : own_clause c.args.state.now.maps h.lits ≡ own_of c.args.state.now.maps (get_or c.lits.result.now 0 zero_lit) ∷ own_of c.args.state.now.maps (get_or c.lits.result.now 1 zero_lit) ∷ [] =
     pairs c.args.state.now c.clauses-clauses.result.now c.args.id.0 c.lits.result.now zero_lit c.clauses-clauses.ensures.value c.lits.ensures.value c.in-len2.len_at_least c.in-len2.len_below h e in
     absurd (none-some m (sym c.in_default-outer_in-2.is
     ∙ outer_found c.args.state.now c.maps-2.result.now (get_or c.lits.result.now 1 zero_lit) c.outer_in-2.result second m c.clauses-clauses.ensures.standing c.maps-2.ensures.value c.outer_in-2.ensures.matched c.outer_in-2.ensures.value
-    (next_same _ _ _ _ (sym two ∙ q)) p))
+    (next_same _ _ _ _ (sym two ∙ q)) p)))
 
 -- the clause that was read, as the state has it
 record Read (k : Kernel) (x y : InLit) : Type 0 where
@@ -98,19 +116,19 @@ offer_pair-requires-clause-different c =
     (is_found k c.maps.result.now x c.outer_in.result c.in-Some.first c.clauses-clauses.ensures.standing c.maps.ensures.value c.outer_in.ensures.matched c.outer_in.ensures.value c.in-Some.is)
     (is_found k c.maps-2.result.now y c.outer_in-2.result c.in-Some-outer_in.second c.clauses-clauses.ensures.standing c.maps-2.ensures.value c.outer_in-2.ensures.matched c.outer_in-2.ensures.value c.in-Some-outer_in.is)
 
-pub returns-clause-pair : goal.returns-clause-pair
-returns-clause-pair c =
-    if_ok (λ _. Contains (met_in c.offer_pair.new.offered) (in_order c.in-Some.first c.in-Some-outer_in.second))
-    (λ count. (h : Held) → clause_at c.args.state.now.store.held c.args.id.0 ≡ Some h → h.learned ≡ true → HasPair (state_of c.args.state.now) (met_in c.offer_pair.new.offered) (own_clause c.args.state.now.maps h.lits))
-    (λ count has h e l k m first second q o p.
+pub returns-clause-told : goal.returns-clause-told
+returns-clause-told c =
+    if_ok (λ _. HasClause c.offer_pair.new.store (in_order c.in-Some.first c.in-Some-outer_in.second)) (λ _. IsToldAt c.args.state.now c.offer_pair.new.store c.args.id.0)
+    (λ _ has. told_at c.args.state.now c.offer_pair.new.store c.args.id.0 c.clauses-clauses.ensures.standing
+    (λ h e l k m first second q o p.
     let two : own_clause c.args.state.now.maps h.lits ≡ own_of c.args.state.now.maps (get_or c.lits.result.now 0 zero_lit) ∷ own_of c.args.state.now.maps (get_or c.lits.result.now 1 zero_lit) ∷ [] =
     pairs c.args.state.now c.clauses-clauses.result.now c.args.id.0 c.lits.result.now zero_lit c.clauses-clauses.ensures.value c.lits.ensures.value c.in-len2.len_at_least c.in-len2.len_below h e in
     let a : c.in-Some.first ≡ k = same_Some c.in-Some.first k (sym c.in-Some.is
     ∙ outer_found c.args.state.now c.maps.result.now (get_or c.lits.result.now 0 zero_lit) c.outer_in.result first k c.clauses-clauses.ensures.standing c.maps.ensures.value c.outer_in.ensures.matched c.outer_in.ensures.value (head_same _ _ _ _ (sym two ∙ q)) o) in
     let b : c.in-Some-outer_in.second ≡ m = same_Some c.in-Some-outer_in.second m (sym c.in-Some-outer_in.is
     ∙ outer_found c.args.state.now c.maps-2.result.now (get_or c.lits.result.now 1 zero_lit) c.outer_in-2.result second m c.clauses-clauses.ensures.standing c.maps-2.ensures.value c.outer_in-2.ensures.matched c.outer_in-2.ensures.value (next_same _ _ _ _ (sym two ∙ q)) p) in
-    subst (λ (z : Lit). Contains (met_in c.offer_pair.new.offered) (in_order k z)) b (subst (λ (z : Lit). Contains (met_in c.offer_pair.new.offered) (in_order z c.in-Some-outer_in.second)) a has))
-    c.offer_pair.result c.offer_pair.ensures.met
+    subst (λ (z : Lit). HasClause c.offer_pair.new.store (in_order k z)) b (subst (λ (z : Lit). HasClause c.offer_pair.new.store (in_order z c.in-Some-outer_in.second)) a has)))
+    c.offer_pair.result c.offer_pair.ensures.has
 
 pub returns-clause-turns : goal.returns-clause-turns
 returns-clause-turns c =

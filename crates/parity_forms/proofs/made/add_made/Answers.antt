@@ -7,6 +7,7 @@ returns-in-Err-clause-err c =
     record {
       maps = c.reserve.ensures.same;
       held = rw (c.drop_all.ensures, c.deref-in-Err.ensures.value) (rolled_back c.args.store.now c.add_all.new.store c.in_ok-ids.ids.items (in_clauses c.deref.result.now) c.store-clauses.ensures.kept c.in_ok-ids.ensures.ok);
+      mark = rw (c.drop_all.ensures) c.in_ok-ids.ensures.mark;
       removed = c.in-Err.ensures.err;
       definitions = c.in_ok-reserve-2.ensures.items;
     }

@@ -21,6 +21,7 @@ each-preserved c =
     adds_more c.args.store.now c.each.store c.add.new.self c.each.ids.items c.push.new.self.items (in_clauses (take c.each.clause-index c.args.fresh.now)) _ c.in_ok-id.id (in_clause c.clause-item.result)
     c.in_ok-id.ensures.fresh c.in_ok-id.ensures.given
     (c.in_ok-id.ensures.held ∙ ap (λ (z : List InLit). c.each.store.held ++ held_as c.in_ok-id.id.0 c.clause-item.result.learned z ∷ []) c.as_slice.ensures)
+    c.in_ok-id.ensures.mark c.in_ok-id.ensures.marked
     (c.in_ok-push.ensures.items ∙ ap (λ (z : List ClauseId). z ++ c.in_ok-id.id ∷ []) c.in_ok-reserve.ensures.items)
     (ap in_clauses (read_at c.args.fresh.now c.each.clause-index c.clause-item.result c.clause-item.is c.each-test.true) ∙ map-append in_clause (take c.each.clause-index c.args.fresh.now) (c.clause-item.result ∷ []))
     c.each.invariant

@@ -8,14 +8,14 @@ use Rattle.removed_vars.proofs.changes.drop_all.Goals.{then-is_live, else-is_liv
 use Rattle.removed_vars.proofs.changes.drop_all.Goals as goal
 
 pub loop-id-init : goal.loop-id-init
-loop-id-init c = ap (λ (hs : List Held). let t : Store = record { held = hs; given = c.args.store.now.given } in t) (sym (without_none c.args.store.now.held))
+loop-id-init c = ap (λ (hs : List Held). let t : Store = record { held = hs; given = c.args.store.now.given; mark = c.args.store.now.mark } in t) (sym (without_none c.args.store.now.held))
 
 abbrev dropped : ClauseId → Store → Store
 dropped i s = record s { held = without i.0 s.held }
 
 -- nothing is dropped where the id is not live
 stays : (s : Store) (i : ClauseId) → is_live s.held i.0 ≡ false → s ≡ dropped i s
-stays s i e = ap (λ (hs : List Held). let t : Store = record { held = hs; given = s.given } in t) (sym (not_live s.held i.0 e))
+stays s i e = ap (λ (hs : List Held). let t : Store = record { held = hs; given = s.given; mark = s.mark } in t) (sym (not_live s.held i.0 e))
 
 pub loop-id-preserved : goal.loop-id-preserved
 loop-id-preserved c =

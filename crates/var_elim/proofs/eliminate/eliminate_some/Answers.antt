@@ -57,3 +57,10 @@ each-preserved c =
             few = omega (arith, w.count-is, c.each.invariant.few);
           }
     ]
+
+pub returns-in_err-eliminate_unless-clause-some : goal.returns-in_err-eliminate_unless-clause-some
+returns-in_err-eliminate_unless-clause-some c = (
+  c.each.count,
+  eliminates_same c.each.count (is_left c.args.state.now.maps c.args.frozen.now c.args.kept_by) (state_of c.args.state.now) (state_of c.each.state) (state_of c.eliminate_unless.new.state)
+      (plain_state c.each.state c.eliminate_unless.new.state c.in_err-eliminate_unless.ensures.err) c.each.invariant.done,
+)

@@ -16,4 +16,4 @@ returns-clause-step c =
     ∙ stored_walk_on c.self.inside.words.items c.args.self.now c.args.id c.self.view_is c.requires)))))
 
 pub returns-clause-kept : goal.returns-clause-kept
-returns-clause-kept c = stored_kept c.self.inside.words.items c.args.self.now c.self.view_is c.self.invariant.few c.self.invariant.distinct
+returns-clause-kept c = stored_kept c.self.inside c.args.self.now c.self.view_is c.self.invariant

@@ -11,6 +11,7 @@ pub invariant_of-self : goal.invariant_of-self
 invariant_of-self c = record {
   blocks = dropped_blocks c.self.inside.words.items c.args.id.0 c.index_mut.result.now c.self.invariant.blocks c.index_mut.ensures.value;
   few = subst (λ n. n ≤ 2 ^ 32) (sym (length-set c.self.inside.words.items c.args.id.0 (as_dropped c.index_mut.result.now))) c.self.invariant.few;
+  marked = subst (λ n. c.self.inside.mark ≤ n) (sym (length-set c.self.inside.words.items c.args.id.0 (as_dropped c.index_mut.result.now))) c.self.invariant.marked;
   distinct = dropped_distinct c.self.inside.words.items c.args.self.now c.args.id.0 c.index_mut.result.now c.self.view_is c.self.invariant.blocks c.requires c.index_mut.ensures.value c.self.invariant.distinct;
 }
 
@@ -18,4 +19,4 @@ pub returns-clause-rest : goal.returns-clause-rest
 returns-clause-rest c = dropped_stored c.self.inside.words.items c.args.self.now c.args.id.0 c.index_mut.result.now c.self.view_is c.self.invariant.blocks c.requires c.index_mut.ensures.value
 
 pub returns-clause-kept : goal.returns-clause-kept
-returns-clause-kept c = stored_kept c.self.inside.words.items c.args.self.now c.self.view_is c.self.invariant.few c.self.invariant.distinct
+returns-clause-kept c = stored_kept c.self.inside c.args.self.now c.self.view_is c.self.invariant

@@ -11,4 +11,4 @@ pub returns-clause-value : goal.returns-clause-value
 returns-clause-value c = word_learned c.self.inside.words.items c.args.self.now c.args.id.0 c.index.result.now c.self.view_is c.requires c.index.ensures
 
 pub returns-clause-kept : goal.returns-clause-kept
-returns-clause-kept c = stored_kept c.self.inside.words.items c.args.self.now c.self.view_is c.self.invariant.few c.self.invariant.distinct
+returns-clause-kept c = stored_kept c.self.inside c.args.self.now c.self.view_is c.self.invariant

@@ -13,7 +13,7 @@ returns-then-place-len-clause-value c =
     ∙ (sym (is_live-word c.self.inside.words.items c.args.id.0 c.index.result.now l) ∙ ap (λ (s : Store). is_live s.held c.args.id.0) c.self.view_is))
 
 pub returns-then-place-len-clause-kept : goal.returns-then-place-len-clause-kept
-returns-then-place-len-clause-kept c = stored_kept c.self.inside.words.items c.args.self.now c.self.view_is c.self.invariant.few c.self.invariant.distinct
+returns-then-place-len-clause-kept c = stored_kept c.self.inside c.args.self.now c.self.view_is c.self.invariant
 
 pub returns-else-place-len-clause-value : goal.returns-else-place-len-clause-value
 returns-else-place-len-clause-value c =
@@ -21,4 +21,4 @@ returns-else-place-len-clause-value c =
     le-ltb _ _ c.if-place-len.false ∙ (sym (is_live-past_words c.self.inside.words.items c.args.id.0 l) ∙ ap (λ (s : Store). is_live s.held c.args.id.0) c.self.view_is)
 
 pub returns-else-place-len-clause-kept : goal.returns-else-place-len-clause-kept
-returns-else-place-len-clause-kept c = stored_kept c.self.inside.words.items c.args.self.now c.self.view_is c.self.invariant.few c.self.invariant.distinct
+returns-else-place-len-clause-kept c = stored_kept c.self.inside c.args.self.now c.self.view_is c.self.invariant

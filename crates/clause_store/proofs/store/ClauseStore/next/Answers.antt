@@ -15,7 +15,7 @@ returns-then-place-len-clause-step c =
     ∙ stored_upto c.self.inside.words.items c.args.self.now c.args.id.0 c.self.view_is)))
 
 pub returns-then-place-len-clause-kept : goal.returns-then-place-len-clause-kept
-returns-then-place-len-clause-kept c = stored_kept c.self.inside.words.items c.args.self.now c.self.view_is c.self.invariant.few c.self.invariant.distinct
+returns-then-place-len-clause-kept c = stored_kept c.self.inside c.args.self.now c.self.view_is c.self.invariant
 
 pub returns-else-place-len-clause-step : goal.returns-else-place-len-clause-step
 returns-else-place-len-clause-step c =
@@ -23,4 +23,4 @@ returns-else-place-len-clause-step c =
     before-none c.args.self.now.held ∙ stored_all c.self.inside.words.items c.args.self.now c.args.id.0 c.self.view_is l
 
 pub returns-else-place-len-clause-kept : goal.returns-else-place-len-clause-kept
-returns-else-place-len-clause-kept c = stored_kept c.self.inside.words.items c.args.self.now c.self.view_is c.self.invariant.few c.self.invariant.distinct
+returns-else-place-len-clause-kept c = stored_kept c.self.inside c.args.self.now c.self.view_is c.self.invariant

@@ -11,5 +11,8 @@ invariant_of-self c =
       kept = c.self.invariant.kept;
       known = c.self.invariant.known;
       found = c.self.invariant.found;
+      pairs_known = c.self.invariant.pairs_known;
+      pairs_rise = c.self.invariant.pairs_rise;
+      pairs_found = c.self.invariant.pairs_found;
       aside = λ v t. aside_set c.self.inside.aside.items c.self.inside.store.held c.args.var.0 v c.self.invariant.aside (ap (λ (s : Store). is_bounded c.args.var.0 s.held) c.self.view_is ∙ c.requires) (ap (λ z. is_flagged z v) (sym c.write_flag.ensures) ∙ t);
     }

@@ -4,6 +4,8 @@ use Rattle.sat_lits.specs.Conflicts.{own_count}
 use Rattle.sat_lits.specs.declared.literal.Lit.{Lit}
 use Rattle.state_laws.specs.State.{problem_of}
 use Rattle.state_laws.specs.Kernel.{Kernel, state_of, Standing}
+use Rattle.sync_laws.specs.Met.{KeepsMet}
+use Rattle.sync_laws.specs.KeepLaws.{keeps_trans}
 use Rattle.search.specs.Answers.{IsBelow}
 use Rattle.one_solver.specs.Assuming.{IsMappedTo}
 use Rattle.one_solver.specs.InStep.{EntriesFollow, follow_same}
@@ -100,3 +102,13 @@ pub unsat_under-requires-clause-entries : goal.unsat_under-requires-clause-entri
 unsat_under-requires-clause-entries g c =
     follow_same (parts_of c.self.inside) (record (parts_of c.self.inside) { kernel = c.run_interval-answer.new.state; conflicts = c.run_interval-answer.new.tally })
     (ap (λ (k : Kernel). problem_of (state_of k)) c.in-Failed.ensures.learned.same) (ap (λ (k : Kernel). k.entries) c.in-Failed.ensures.learned.same) (subst EntriesFollow (sym c.self.view_is) c.requires.entries)
+
+pub returns-in-Failed-clause-met : goal.returns-in-Failed-clause-met
+returns-in-Failed-clause-met g c =
+    subst (λ (s : Parts). KeepsMet (state_of s.kernel) (state_of c.unsat_under.new.self.kernel)) c.self.view_is
+    (keeps_trans (state_of c.self.inside.state) (state_of c.run_interval-answer.new.state) (state_of c.unsat_under.new.self.kernel) c.in-Failed.ensures.kept c.unsat_under.ensures.met)
+
+pub returns-in-IntervalOver-clause-met : goal.returns-in-IntervalOver-clause-met
+returns-in-IntervalOver-clause-met g c =
+    subst (λ (s : Parts). KeepsMet (state_of s.kernel) (state_of c.end_interval.new.self.kernel)) c.self.view_is
+    (keeps_trans (state_of c.self.inside.state) (state_of c.run_interval-answer.new.state) (state_of c.end_interval.new.self.kernel) c.in-IntervalOver.ensures.kept c.end_interval.ensures.met)

@@ -7,9 +7,9 @@ use Rattle.private_state.proofs.state.PrivateState.compact.Goals as goal
 pub invariant_of-self : goal.invariant_of-self
 invariant_of-self c =
     record {
-      standing = renumbered-Standing (kernel_of c.self.inside) c.compact.new.self c.compact.ensures.hard c.compact.ensures.learned c.self.invariant.standing;
+      standing = renumbered-Standing (kernel_of c.self.inside) c.compact.new.self c.compact.ensures.hard c.compact.ensures.learned c.compact.ensures.marked c.self.invariant.standing;
       vars = c.self.invariant.vars;
     }
 
 pub returns-clause-state : goal.returns-clause-state
-returns-clause-state c = renumbered (kernel_of c.self.inside) c.compact.new.self c.compact.ensures.hard c.compact.ensures.learned ∙ ap (λ (k : Kernel). state_of k) c.self.view_is
+returns-clause-state c = renumbered (kernel_of c.self.inside) c.compact.new.self c.compact.ensures.hard c.compact.ensures.learned c.compact.ensures.marked ∙ ap (λ (k : Kernel). state_of k) c.self.view_is

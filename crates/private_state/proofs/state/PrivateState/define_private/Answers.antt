@@ -51,7 +51,7 @@ done c =
     definable_made (kernel_of c.self.inside) (after c) c.args.definition.now c.in_ok-made.made
     (record { maps = c.self.inside.maps; store = c.self.inside.store; removed = c.self.inside.removed; definitions = c.self.inside.definitions.items })
     (record { maps = c.add_made.new.maps; store = c.add_made.new.store; removed = c.add_made.new.removed; definitions = c.add_made.new.definitions.items })
-    c.self.invariant.standing (fit c) c.in_ok-made.ensures.matched c.in_ok-made.ensures.definitions c.in_ok-made.ensures.clauses c.in_ok-add_made.ensures.ok refl refl refl refl refl refl refl refl refl refl
+    c.self.invariant.standing (fit c) c.in_ok-made.ensures.matched c.in_ok-made.ensures.definitions c.in_ok-made.ensures.clauses c.in_ok-add_made.ensures.ok refl refl refl refl refl refl refl refl refl refl refl
 
 pub invariant_of-self-2 : goal.invariant_of-self-2
 invariant_of-self-2 c =

@@ -19,7 +19,7 @@ done : (c : goal.After-push_reserved) → HoldsMore (kernel_of c.self.inside) (a
 done c =
     let k : Kernel = kernel_of c.self.inside in
     held_more k c.add.new.self c.push_reserved.new.self.items c.in_ok-id.id.0 c.args.stored.now c.args.entry.clause (own_clause k.maps c.args.stored.now)
-    (subst (λ (z : Kernel). own_form (state_of z) c.args.entry.clause ≡ Some (own_clause z.maps c.args.stored.now)) (sym c.self.view_is) c.requires.form) refl c.in_ok-id.ensures.held c.in_ok-id.ensures.fresh
+    (subst (λ (z : Kernel). own_form (state_of z) c.args.entry.clause ≡ Some (own_clause z.maps c.args.stored.now)) (sym c.self.view_is) c.requires.form) refl c.in_ok-id.ensures.held c.in_ok-id.ensures.fresh c.add.ensures.mark c.add.ensures.marked
 
 entries : (c : goal.After-push_reserved) → (after c).entries ≡ (kernel_of c.self.inside).entries ++ c.args.entry ∷ []
 entries c = c.push_reserved.ensures.items ∙ ap (λ (z : List Shared). z ++ c.args.entry ∷ []) c.in_ok-reserve.ensures.items
@@ -46,4 +46,5 @@ returns-clause-held c =
       held = c.in_ok-id.ensures.held;
       fresh = c.in_ok-id.ensures.fresh;
       given = c.in_ok-id.ensures.given;
+      mark = c.add.ensures.mark;
     })

@@ -1,6 +1,6 @@
 use Rattle.std.proofs.Common.{◌≡◌, ◌∙◌, ◌++◌, ◌∷◌, [], refl, ap, sym, subst, List, true, filter}
 use Rattle.rebuild_stack.specs.declared.entry.Entry.TheVariants.{Gone}
-use Rattle.clause_store.specs.Store.{IsKept as KeptStore}
+use Rattle.clause_store.specs.Store.{Store, IsKept as KeptStore}
 use Rattle.var_maps.specs.Maps.{Matched}
 use Rattle.state_laws.specs.State.{is_active}
 use Rattle.state_laws.specs.Resolution.{mentions, resolvents}
@@ -27,6 +27,7 @@ refused : (c : goal.After-drop-fresh-in-Err) → plain_kernel (kernel_of (record
 refused c =
     rolled_kernel (kernel_of c.self.inside) c.drop_all.new.store c.push.new.self.entries
     (rw (c.drop_all.ensures, c.deref-in-Err.ensures.value) (rolled_back c.self.inside.store c.add_all.new.store c.in_ok-ids.ids.items (in_clauses c.deref.result.now) (subst (λ (k : Kernel). KeptStore k.store) (sym c.self.view_is) c.requires.kept) c.in_ok-ids.ensures.ok))
+    (ap (λ (s : Store). s.mark) c.drop_all.ensures ∙ c.add_all.ensures.mark)
     (ap (λ (r : Removed). r.entries) c.in-Err.ensures.err)
 
 pub invariant_of-self-in-Err : goal.invariant_of-self-in-Err
@@ -56,6 +57,8 @@ done c =
       store = c.drop_all-2.ensures ∙ ap (λ z. without_ids (numbers z) c.add_all.new.store) c.deref-2.ensures.value;
       stack = ap (λ (r : Removed). r.entries) c.in_default.ensures.ok ∙ ap (λ z. c.self.inside.removed.entries ++ Gone c.args.var z ∷ []) (taken c).block;
       okay = refl;
+      stack_mark = refl;
+      within = c.self.invariant.standing.within;
       doomed = (taken c).doomed;
       become = (stores c).become;
       extends = Adds-ExtendsBy c.self.inside.store c.add_all.new.store c.in_ok-ids.ids.items (in_clauses c.args.fresh.items)

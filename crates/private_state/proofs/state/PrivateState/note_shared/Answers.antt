@@ -21,8 +21,9 @@ done c =
       definitions = refl;
       maps = refl;
       stack = refl;
+      stack_mark = refl;
       okay = refl;
-      extends = record { news = []; held = sym (append-nil c.self.inside.store.held); contents = refl; fresh = refl };
+      extends = record { news = []; held = sym (append-nil c.self.inside.store.held); contents = refl; fresh = refl; mark = refl; marked = refl };
       become = ap (λ o. map hard_clause (option_to_list o)) (sym (form c));
     }
 

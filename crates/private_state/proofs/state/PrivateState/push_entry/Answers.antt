@@ -1,5 +1,6 @@
 use Rattle.std.proofs.Common.{◌≡◌, ◌∙◌, ℕ, refl, ap, sym, subst, List}
 use Rattle.rebuild_stack.specs.Entries.{named}
+use Rattle.clause_store.specs.Store.{Store}
 use Rattle.var_maps.specs.Maps.{plain, retired}
 use Rattle.state_laws.specs.Conditions.{Pushable, EntryFollows}
 use Rattle.state_laws.specs.Moves.{put_into}
@@ -28,6 +29,7 @@ refused : (c : goal.After-drop-changes-in-Err-2) → plain_kernel (kernel_of (re
 refused c =
     rolled_kernel (kernel_of c.self.inside) c.drop_all.new.store c.push.new.self.entries
     (rw (c.drop_all.ensures, c.deref-in-Err.ensures.value) (rolled_back c.self.inside.store c.add_all.new.store c.in_ok-ids.ids.items (in_clauses c.deref.result.now) c.in_ok-changes.ensures.kept c.in_ok-ids.ensures.ok))
+    (ap (λ (s : Store). s.mark) c.drop_all.ensures ∙ c.add_all.ensures.mark)
     (ap (λ (r : Removed). r.entries) c.in-Err.ensures.err)
 
 pub invariant_of-self-in-Err : goal.invariant_of-self-in-Err
@@ -54,6 +56,8 @@ done c =
       store = c.drop_all-2.ensures ∙ ap (λ z. without_ids (numbers z) c.add_all.new.store) c.deref-2.ensures.value;
       stack = ap (λ (r : Removed). r.entries) c.in_default.ensures.ok;
       okay = refl;
+      stack_mark = refl;
+      within = c.self.invariant.standing.within;
       collected = c.in_ok-changes.ensures.collected.collected;
       extends = Adds-ExtendsBy c.self.inside.store c.add_all.new.store c.in_ok-ids.ids.items (in_clauses c.in_ok-changes.changes.fresh.items)
           (subst (λ (z : List Fresh). Adds c.self.inside.store c.add_all.new.store c.in_ok-ids.ids.items (in_clauses z)) c.deref.ensures.value c.in_ok-ids.ensures.ok);

@@ -1,4 +1,4 @@
-use Rattle.std.proofs.Common.{◌≡◌, ◌∙◌, arith, List, Result, length, refl, sym, ap, subst}
+use Rattle.std.proofs.Common.{◌≡◌, ◌∙◌, arith, ℕ, List, Result, length, refl, sym, ap, ap₂, subst}
 use Rattle.std.specs.Prelude.{OnErr}
 use Rattle.sat_lits.specs.declared.literal.Own.{Own}
 use Rattle.sat_lits.specs.declared.list.NoMemory.{NoMemory}
@@ -48,14 +48,14 @@ left c = elim c.each-test.branch [
       w.self-inside-is w.done-is
       (record {
         over = stopped c.args.vars.now c.each.var-index (record { 0 = 0 }) (state_of c.args.self.now) (kernel_of c.each.self-inside) w.each-test.true c.each.invariant.under_way w.bring_back-done.new.maps w.bring_back-done.new.store
-            w.bring_back-done.result w.if-is_err.ensures.value w.bring_back-done.ensures.err w.bring_back-done.ensures.held;
+            w.bring_back-done.result w.if-is_err.ensures.value w.bring_back-done.ensures.err w.bring_back-done.ensures.held w.bring_back-done.ensures.mark;
         count = c.each.invariant.vars;
       })
 ]
 
 -- the entries of those that came back are out of the stack
-swept : (c : goal.After-take_out_active) → kernel_of (record c.each-test.self-inside { removed = c.take_out_active.new.self }) ≡ thinned (kernel_of c.each-test.self-inside)
-swept c = ap (λ (s : List Entry). record (kernel_of c.each-test.self-inside) { stack = s }) (ap (λ (r : Removed). r.entries) c.take_out_active.ensures)
+swept : (c : goal.After-take_out_active) → kernel_of (record c.each-test.self-inside { removed = c.take_out_active.new.self; stack_mark = c.count_left-self-inside.result }) ≡ thinned (kernel_of c.each-test.self-inside)
+swept c = ap₂ {C = Kernel} (λ (s : List Entry) (m : ℕ). record (kernel_of c.each-test.self-inside) { stack = s; stack_mark = m }) (ap (λ (r : Removed). r.entries) c.take_out_active.ensures) c.count_left-self-inside.ensures
 
 pub invariant_of-self : goal.invariant_of-self
 invariant_of-self c =

@@ -1,4 +1,6 @@
-use Rattle.std.proofs.Common.{◌≡◌, ◌∙◌, List, sym, ap, subst}
+use Rattle.std.proofs.Common.{◌≡◌, ◌∙◌, ℕ, List, Result, Ok, Err, sym, ap, ap₂, subst}
+use Rattle.std.specs.Prelude.{OnErr}
+use Rattle.sat_lits.specs.declared.list.NoMemory.{NoMemory}
 use Rattle.rebuild_stack.specs.declared.entry.Entry.{Entry}
 use Rattle.state_laws.specs.Kernel.{Kernel, Standing, state_of}
 use Rattle.state_laws.specs.ViewLaws.{same_state-Standing}
@@ -27,14 +29,27 @@ pub invariant_of-self : goal.invariant_of-self
 invariant_of-self c =
     let k : Kernel = kernel_of c.self.inside in
     record {
-      standing = same_state-Standing k (record k { maps = c.bring_back.new.maps; store = c.bring_back.new.store }) (same_state k c.bring_back.new.maps c.bring_back.new.store c.in_err-bring_back.ensures.err c.in_err-bring_back.ensures.held)
-          c.in_err-bring_back.ensures.err.outers c.in_err-bring_back.ensures.err.outer_numbers c.self.invariant.standing;
+      standing = same_state-Standing k (record k { maps = c.bring_back.new.maps; store = c.bring_back.new.store }) (same_state k c.bring_back.new.maps c.bring_back.new.store c.in_err-bring_back.ensures.err c.in_err-bring_back.ensures.held c.bring_back.ensures.mark)
+          c.in_err-bring_back.ensures.err.outers c.in_err-bring_back.ensures.err.outer_numbers c.self.invariant.standing.within c.self.invariant.standing;
       vars = c.self.invariant.vars;
     }
 
+-- what holds wherever there is an error
+in_err : {P : Type 0} (r : Result (Unit {0}) NoMemory) → P → OnErr r P
+in_err (Ok u) p = tt
+in_err (Err x) p = p
+
+pub returns-in_err-bring_back-clause-err : goal.returns-in_err-bring_back-clause-err
+returns-in_err-bring_back-clause-err c =
+    in_err c.from_residual.result
+    (same_state (kernel_of c.self.inside) c.bring_back.new.maps c.bring_back.new.store c.in_err-bring_back.ensures.err c.in_err-bring_back.ensures.held c.bring_back.ensures.mark
+    ∙ ap (λ (k : Kernel). state_of k) c.self.view_is)
+
 -- its entry is out of the stack
-swept : (c : goal.After-take_out_active) → kernel_of (record c.self.inside { maps = c.bring_back.new.maps; store = c.bring_back.new.store; removed = c.take_out_active.new.self }) ≡ thinned (record (kernel_of c.self.inside) { maps = c.bring_back.new.maps; store = c.bring_back.new.store })
-swept c = ap (λ (s : List Entry). record (kernel_of c.self.inside) { maps = c.bring_back.new.maps; store = c.bring_back.new.store; stack = s }) (ap (λ (r : Removed). r.entries) c.take_out_active.ensures)
+swept : (c : goal.After-take_out_active) → kernel_of (record c.self.inside { maps = c.bring_back.new.maps; store = c.bring_back.new.store; removed = c.take_out_active.new.self; stack_mark = c.count_left-self-inside.result }) ≡ thinned (record (kernel_of c.self.inside) { maps = c.bring_back.new.maps; store = c.bring_back.new.store })
+swept c =
+    ap₂ {C = Kernel} (λ (s : List Entry) (m : ℕ). record (kernel_of c.self.inside) { maps = c.bring_back.new.maps; store = c.bring_back.new.store; stack = s; stack_mark = m }) (ap (λ (r : Removed). r.entries) c.take_out_active.ensures)
+    c.count_left-self-inside.ensures
 
 pub invariant_of-self-2 : goal.invariant_of-self-2
 invariant_of-self-2 c =

@@ -32,6 +32,7 @@ done c =
       definitions = refl;
       maps = refl;
       stack = refl;
+      stack_mark = refl;
       okay = refl;
       extends = c.in_ok-add_hard.ensures.ok;
       become = stored_form c.self.inside.maps c.in_ok-clause.clause (own_form (state_of (kernel_of c.self.inside)) c.args.lits.now)

@@ -96,7 +96,7 @@ done c =
     (record { maps = c.self.inside.maps; store = c.self.inside.store; removed = c.self.inside.removed; definitions = c.self.inside.definitions.items })
     (record { maps = c.add_made.new.maps; store = c.add_made.new.store; removed = c.add_made.new.removed; definitions = c.add_made.new.definitions.items })
     c.self.invariant.standing (takable c) c.in_ok-made.ensures.matched (c.in_ok-made.ensures.definitions ∙ ap definitions_of (pieces_are c))
-    (c.in_ok-made.ensures.clauses ∙ ap (λ (z : List Piece). map hard_in (all_stored_forms c.self.inside.maps z)) (pieces_are c)) c.in_ok-add_made.ensures.ok refl refl refl refl refl refl refl refl refl refl
+    (c.in_ok-made.ensures.clauses ∙ ap (λ (z : List Piece). map hard_in (all_stored_forms c.self.inside.maps z)) (pieces_are c)) c.in_ok-add_made.ensures.ok refl refl refl refl refl refl refl refl refl refl refl
 
 items : (c : After-drop-pieces-inside-2) → (after c).items ≡ (kernel_of c.self.inside).items ++ Parity c.as_slice.result.now c.args.rhs ∷ []
 items c =
